@@ -8,6 +8,7 @@ use Rattle.fault.specs.declared.Cause.the-variants.{NoUnit, NoRegister, ReadOn
 use Rattle.fault.specs.declared.Layer.{Layer}
 use Rattle.fault.specs.declared.Layer.the-variants.{List as InList, Rack as InRack, Unit as InUnit, Text as InText}
 use Rattle.fault.specs.declared.Fault.{Fault}
+use Rattle.fault.specs.declared.Place.{Place}
 
 pub record Rule : Type 0 where
   pub number : ℕ
@@ -27,9 +28,13 @@ rule TrailerCount = record { number = 10; layer = InList }
 rule FanCount = record { number = 11; layer = InList }
 rule BufferTooShort = record { number = 12; layer = InText }
 
+-- a fault of the line at p
+abbrev pub faultAt : Cause → Place → Fault
+faultAt c p = record { cause = c; place = p }
+
 -- a fault that no line has
 abbrev pub unplaced : Cause → Fault
-unplaced c = record { cause = c; place = record { line = 0; offset = 0 } }
+unplaced c = faultAt c (record { line = 0; offset = 0 })
 
 -- `fault NUMBER LINE OFFSET`, in decimal
 abbrev pub faultLine : Fault → List ℕ

@@ -1,7 +1,7 @@
 // Why a call is refused, and where in a set-up list: the one fault type that every layer hands up.
 ghost use mathlib.Core.Path.{_≡_};
 ghost use Rattle.std.specs.declared.option.Option.the-variants.{Some};
-ghost use Rattle.fault.specs.Faults.{rule, unplaced, faultLine};
+ghost use Rattle.fault.specs.Faults.{rule, faultAt, unplaced, faultLine};
 use std::fmt;
 
 // The twelve refusals. Their numbers and layers are `rule` in specs/Faults.antt.
@@ -82,17 +82,19 @@ impl Cause {
             Cause::BufferTooShort => Layer::Text,
         }
     }
-}
 
-impl Fault {
-    // A fault of the whole list, or of a call outside a list.
-    pub fn unplaced(cause: Cause) -> Fault
-        ensures { λ r. ⌜ r ≡ unplaced cause ⌝ }
+    // A fault of the line at a place.
+    pub fn at(self, place: Place) -> Fault
+        ensures { λ r. ⌜ r ≡ faultAt self place ⌝ }
     {
-        Fault {
-            cause,
-            place: Place { line: 0, offset: 0 },
-        }
+        Fault { cause: self, place }
+    }
+
+    // A fault of the whole list, or of a call outside a list.
+    pub fn unplaced(self) -> Fault
+        ensures { λ r. ⌜ r ≡ unplaced self ⌝ }
+    {
+        self.at(Place { line: 0, offset: 0 })
     }
 }
 

@@ -1,4 +1,4 @@
--- What an `Option` that is known to be there says of its parts. Assumes nothing.
+-- What an `Option` that is known to be there says of its parts.
 use mathlib.Core.Path.{_≡_, refl}
 use mathlib.Core.Bool.{Bool, true, false, cond}
 use Prim.Native.Nat.{ℕ}

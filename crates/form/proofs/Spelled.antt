@@ -1,4 +1,4 @@
--- A line is understood exactly as it is spelled. Assumes nothing.
+-- A line is understood exactly as it is spelled.
 use mathlib.Core.Path.{_≡_, refl, sym, ap, subst, _∙_}
 use mathlib.Core.Bool.{Bool, true, false, cond, _&&_}
 use mathlib.Core.List.{List, [], _∷_, _++_, map}
@@ -15,7 +15,7 @@ use Rattle.std.proofs.shelf.Tests.{and-parts, eqb-true, leb-true}
 use Rattle.std.proofs.shelf.Ways.{tells}
 use Rattle.form.specs.declared.Opening.{Opening}
 use Rattle.form.specs.declared.Opening.the-variants as opens
-use Rattle.form.specs.Forms.{Said, write, fans, remark, trailer, given, within, decimalDigit, hexDigit, hexByte, byteAt, spaced, printable, allPrintable, asWrite, asFans, asRemark, asTrailer, opening, formed, formOf}
+use Rattle.form.specs.Forms.{Said, write, fans, remark, trailer, given, within, decimalDigit, hexDigit, hexByte, byteAt, spaced, printable, allPrintable, remarkShaped, asWrite, asFans, asRemark, asTrailer, opening, formed, formOf}
 use Rattle.form.proofs.Options.{none-some, some-is, given-some, cond-some}
 use Rattle.form.specs.Spelling.{hexOf, hexOfByte, spelled, Sayable, Spells, Understood}
 
@@ -110,15 +110,15 @@ first-two (a ∷ b ∷ t) h = refl
 
 remark-sound : (t : List ℕ) (s : Said) → getD t 0 0 ≡ 35 → asRemark t ≡ Some s → Spells t s
 remark-sound t s first e =
-    let p = cond-some (within 2 62 (length t) && (eqb (getD t 1 0) 32 && allPrintable (drop 2 t))) _ s e in
-    let shape = and-parts (within 2 62 (length t)) _ (p .0) in
-    let rest = and-parts (eqb (getD t 1 0) 32) _ (shape .1) in
-    let size = and-parts (leb 2 (length t)) _ (shape .0) in
+    let p = cond-some (remarkShaped t && allPrintable (drop 2 t)) _ s e in
+    let parts = and-parts (remarkShaped t) (allPrintable (drop 2 t)) (p .0) in
+    let shape = and-parts (within 2 62 (length t)) (eqb (getD t 1 0) 32) (parts .0) in
+    let size = and-parts (leb 2 (length t)) (leb (length t) 62) (shape .0) in
     let least = leb-true 2 (length t) (size .0) in
     let most = leb-true (length t) 62 (size .1) in
     subst (Spells t) (some-is _ _ (p .1)) (record {
-      whole = first-two t least ∙ (λ i. first i ∷ eqb-true (getD t 1 0) 32 (rest .0) i ∷ drop 2 t);
-      fields = (simp length-drop (omega arith), all-printable (drop 2 t) (rest .1));
+      whole = first-two t least ∙ (λ i. first i ∷ eqb-true (getD t 1 0) 32 (shape .1) i ∷ drop 2 t);
+      fields = (simp length-drop (omega arith), all-printable (drop 2 t) (parts .1));
     })
 
 trailer-sound : (t : List ℕ) (s : Said) → getD t 0 0 ≡ 116 → asTrailer t ≡ Some s → Spells t s

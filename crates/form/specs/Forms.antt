@@ -79,9 +79,12 @@ asWrite t = cond (spaced t 10 (1 ∷ 4 ∷ 7 ∷ [])) (given (byteAt t 2) (λ a.
 abbrev pub asFans : List ℕ → Option Said
 asFans t = cond (spaced t 6 (1 ∷ 4 ∷ [])) (given (byteAt t 2) (λ a. given (decimalDigit (getD t 5 0)) (λ n. Some (fans a n)))) None
 
--- `# ` and at most 60 printable bytes
+-- `# ` and at most 60 bytes
+abbrev pub remarkShaped : List ℕ → Bool
+remarkShaped t = within 2 62 (length t) && eqb (getD t 1 0) 32
+
 abbrev pub asRemark : List ℕ → Option Said
-asRemark t = cond (within 2 62 (length t) && (eqb (getD t 1 0) 32 && allPrintable (drop 2 t))) (Some (remark (drop 2 t))) None
+asRemark t = cond (remarkShaped t && allPrintable (drop 2 t)) (Some (remark (drop 2 t))) None
 
 -- `t LLLL`
 abbrev pub asTrailer : List ℕ → Option Said

@@ -1,7 +1,7 @@
 // The four forms of a set-up line: a write, a fan count, a remark, the trailer.
 ghost use mathlib.Core.Path.{_≡_};
 ghost use Rattle.std.specs.Options.{mapped};
-ghost use Rattle.form.specs.Forms.{opening, hexDigit, hexByte, decimalDigit, printable, allPrintable, meaning, trailerCount, asWrite, asFans, asRemark, asTrailer, formed, formOf};
+ghost use Rattle.form.specs.Forms.{opening, hexDigit, hexByte, decimalDigit, printable, allPrintable, meaning, trailerCount, remarkShaped, asWrite, asFans, asRemark, asTrailer, formed, formOf};
 ghost use Rattle.form.specs.Spelling.{Understood};
 
 // A line without its newline. A remark is its own part of the list.
@@ -114,10 +114,17 @@ fn fans_line(text: &[u8]) -> Option<Line<'_>>
     Some(Line::Fans { unit, count })
 }
 
+// Whether the text has a remark's length, and a space after its first byte.
+fn is_remark_shaped(text: &[u8]) -> bool
+    ensures { λ r. ⌜ r ≡ remarkShaped (now (text .entry)) ⌝ }
+{
+    text.len() >= 2 && text.len() <= 62 && text[1] == b' '
+}
+
 fn remark_line(text: &[u8]) -> Option<Line<'_>>
     ensures { λ r. ⌜ mapped meaning r ≡ asRemark (now (text .entry)) ⌝ }
 {
-    if text.len() < 2 || text.len() > 62 || text[1] != b' ' {
+    if !is_remark_shaped(text) {
         return None;
     }
     let (_, remark) = text.split_at(2);

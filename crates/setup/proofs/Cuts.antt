@@ -1,4 +1,4 @@
--- The lines of a list are cut as they should be. Assumes nothing.
+-- The lines of a list are cut as they should be.
 use mathlib.Core.Path.{_≡_, refl, sym, ap, subst, _∙_}
 use mathlib.Core.Bool.{Bool, true, false, cond}
 use mathlib.Core.List.{List, [], _∷_, _++_, map, append-assoc, append-nil}

@@ -1,4 +1,4 @@
--- A list is found good exactly when it is well made. Assumes nothing.
+-- A list is found good exactly when it is well made.
 use mathlib.Core.Path.{_≡_, refl, sym, ap, subst, _∙_}
 use mathlib.Core.Bool.{Bool, true, false, cond, _&&_, not}
 use mathlib.Core.List.{List, [], _∷_, _++_, map, append-assoc, append-nil}
@@ -21,7 +21,7 @@ use Rattle.std.proofs.shelf.Elements.{all-weaker, all-append}
 use Rattle.std.proofs.shelf.Lists.{append-cancel-right}
 use Rattle.std.proofs.shelf.Tests.{true≢false, ne-eqb, eq-eqb, le-ltb, ltb-false, cond-true, cond-false}
 use Rattle.std.proofs.shelf.Ways.{tells}
-use Rattle.fault.specs.Faults.{unplaced}
+use Rattle.fault.specs.Faults.{faultAt, unplaced}
 use Rattle.fault.specs.declared.Cause.the-variants.{ListTooLong, NoForm}
 use Rattle.fault.specs.declared.Fault.{Fault}
 use Rattle.fault.specs.declared.Place.{Place}
@@ -32,7 +32,7 @@ use Rattle.form.proofs.Spelled.{spelled-back, understood}
 use Rattle.setup.specs.Cutting.{Unended, rejoined}
 use Rattle.setup.specs.Lines.{onto, lines, TextAt, past, layOut, laid}
 use Rattle.setup.specs.Reading.{SaidAt, entryFrom, entries}
-use Rattle.setup.specs.Verdict.{lastOf, countFault, trailerFault, endsFault, firstIn, firstFault, verdict, Newline}
+use Rattle.setup.specs.Verdict.{lastOf, countFault, trailerFault, lengthFault, endsFault, firstIn, firstFault, verdict, Newline}
 use Rattle.setup.specs.WellMade.{Plain, written, WellMade}
 use Rattle.setup.proofs.Cuts.{over, cut}
 
@@ -124,14 +124,14 @@ good bs w =
     let size = ap length (w .whole) ∙ length-append (written (w .said)) (spelled (trailer n) ++ w .end) in
     let few : n < 65536 = omega (arith, w .short, size) in
     let cut : lines bs ≡ before ++ spelled (trailer n) ∷ [] = ap lines (w .whole) ∙ lines-written (w .said) _ (w .plain) ∙ ap (λ ls. before ++ ls) (trailer-line n (w .end) few (w .ended)) in
-    let ends : endsFault bs ≡ None =
-    cond-false (ltb 24576 (length bs)) _ _ (le-ltb 24576 (length bs) (w .short))
-    ∙ ap (λ ls. trailerFault (lastOf (layOut first ls))) cut
+    let short : lengthFault bs ≡ None = cond-false (ltb 24576 (length bs)) _ _ (le-ltb 24576 (length bs) (w .short)) in
+    let counted : trailerFault (lastOf (laid bs)) ≡ None =
+    ap (λ ls. trailerFault (lastOf (layOut first ls))) cut
     ∙ ap trailerFault (last-line first before (spelled (trailer n)) None)
     ∙ ap (λ f. countFault (pastAll first before) (given f trailerCount)) (spelled-back (trailer n) few)
     ∙ cond-true (eqb n (pastAll first before .offset)) _ _ (eq-eqb n _ (sym (trailer-offset (w .said)))) in
     let clean = ap (λ ls. firstIn (entries (layOut first ls))) cut ∙ good-lines first (w .said) n (w .plain) few in
-    λ i. orOther (ends i) (clean i)
+    λ i. orOther (orOther (short i) (counted i)) (clean i)
 
 or-none : {A : Type 0} (o p : Option A) → orOther o p ≡ None → (o ≡ None) × (p ≡ None)
 or-none None p e = (refl, e)
@@ -149,7 +149,7 @@ trailer-none : (o : Option TextAt) → trailerFault o ≡ None → (t : TextAt) 
 trailer-none None e = none-some (sym e)
 trailer-none (Some t) e = (t, refl, count-none (t .place) (given (formOf (t .text)) trailerCount) e)
 
-entry-some : (p : Place) (t : Bool) (s : Said) (es : List (Result SaidAt Fault)) → firstIn (cond t (Err (record { cause = NoForm; place = p })) (Ok (record { place = p; said = s })) ∷ es) ≡ None → (t ≡ false) × (firstIn es ≡ None)
+entry-some : (p : Place) (t : Bool) (s : Said) (es : List (Result SaidAt Fault)) → firstIn (cond t (Err (faultAt NoForm p)) (Ok (record { place = p; said = s })) ∷ es) ≡ None → (t ≡ false) × (firstIn es ≡ None)
 entry-some p true s es e = none-some (sym e)
 entry-some p false s es e = (refl, e)
 
@@ -204,9 +204,10 @@ made-of bs (l ∷ ls) cut short t n clean last count here =
 pub made : (bs : List ℕ) → firstFault bs ≡ None → WellMade bs
 made bs e =
     let parts = or-none (endsFault bs) (firstIn (entries (laid bs))) e in
-    let ends = cond-none (ltb 24576 (length bs)) (unplaced ListTooLong) (trailerFault (lastOf (laid bs))) (parts .0) in
+    let ends = or-none (lengthFault bs) (trailerFault (lastOf (laid bs))) (parts .0) in
+    let short = cond-none (ltb 24576 (length bs)) (unplaced ListTooLong) None (ends .0) in
     let last = trailer-none (lastOf (laid bs)) (ends .1) in
-    made-of bs (lines bs) refl (ltb-false 24576 (length bs) (ends .0)) (last .0) (last .2 .0) (parts .1) (last .1) (last .2 .1) (last .2 .2)
+    made-of bs (lines bs) refl (ltb-false 24576 (length bs) (short .0)) (last .0) (last .2 .0) (parts .1) (last .1) (last .2 .1) (last .2 .2)
 
 ok-none : (o : Option Fault) → isOk (verdict o) ≡ true → o ≡ None
 ok-none None e = refl
@@ -217,7 +218,7 @@ newline-verdict : (bs : List ℕ) → Unended bs → (length bs ≡ 24576 → �
 newline-verdict bs u other =
     let same = cut bs .newline u in
     let size : ltb 24576 (length (bs ++ 10 ∷ [])) ≡ ltb 24576 (length bs) = simp length-append (grind (arith, tells)) in
-    λ i. orOther (cond (size i) (Some (unplaced ListTooLong)) (trailerFault (lastOf (same i)))) (firstIn (entries (same i)))
+    λ i. orOther (orOther (cond (size i) (Some (unplaced ListTooLong)) None) (trailerFault (lastOf (same i)))) (firstIn (entries (same i)))
 
 module _ (bs : List ℕ) (r : Result (Unit {0}) Fault) (is : r ≡ verdict (firstFault bs)) where
   pub good-when-made : Decides (isOk r) (WellMade bs)

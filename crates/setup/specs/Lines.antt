@@ -1,15 +1,10 @@
 -- The lines of a set-up list, and where each stands.
 use mathlib.Core.Bool.{cond}
 use mathlib.Core.List.{List, [], _∷_}
-use Prim.Native.Nat.{ℕ, suc, _+_}
+use Prim.Native.Nat.{ℕ, _+_}
 use lib.Dec.{eqb}
 use lib.ListN.{length}
 use Rattle.fault.specs.declared.Place.{Place}
-
--- how many bytes stand before the first newline
-abbrev pub upTo : List ℕ → ℕ
-upTo [] = 0
-upTo (b ∷ bs) = cond (eqb b 10) 0 (suc (upTo bs))
 
 -- b in front of the first line
 abbrev pub onto : ℕ → List (List ℕ) → List (List ℕ)

@@ -2,12 +2,15 @@
 use mathlib.Core.Path.{_≡_}
 use mathlib.Core.Bool.{Bool, true, false, not, cond, _&&_}
 use mathlib.Core.List.{List, [], _∷_}
+use Prim.Native.Nat.{ℕ, _+_}
+use lib.Dec.{ltb}
 use lib.ListN.{drop}
 use Rattle.std.specs.Options.{isSome, mapped}
 use Rattle.std.specs.declared.option.Option.{Option}
 use Rattle.std.specs.declared.option.Option.the-variants.{None, Some}
 use Rattle.std.specs.declared.result.Result.{Result}
 use Rattle.std.specs.declared.result.Result.the-variants.{Ok, Err}
+use Rattle.fault.specs.Faults.{faultAt}
 use Rattle.fault.specs.declared.Cause.the-variants.{NoForm}
 use Rattle.fault.specs.declared.Fault.{Fault}
 use Rattle.fault.specs.declared.Place.{Place}
@@ -29,6 +32,10 @@ abbrev pub rest : {A : Type 0} → List A → List A
 rest [] = []
 rest (x ∷ xs) = xs
 
+-- where the line after one at p begins, if that ends at `end` in a list of n bytes: past the newline, if one is there
+abbrev pub placeAfter : Place → ℕ → ℕ → Place
+placeAfter p end n = record { line = p .line + 1; offset = cond (ltb end n) (end + 1) end }
+
 -- the lines that a reader has yet to yield
 abbrev pub ahead : Reader → List TextAt
 ahead s = layOut (s .place) (lines (drop (s .place .offset) (s .list .now)))
@@ -47,8 +54,8 @@ saidAt (Err f) = Err f
 
 -- what the line at p says, or that it has none of the four forms; a trailer that is not the last line counts as having none
 abbrev pub entryFrom : Place → Bool → Option Said → Result SaidAt Fault
-entryFrom p last None = Err (record { cause = NoForm; place = p })
-entryFrom p last (Some s) = cond (isSome (trailerCount s) && not last) (Err (record { cause = NoForm; place = p })) (Ok (record { place = p; said = s }))
+entryFrom p last None = Err (faultAt NoForm p)
+entryFrom p last (Some s) = cond (isSome (trailerCount s) && not last) (Err (faultAt NoForm p)) (Ok (record { place = p; said = s }))
 
 abbrev pub entries : List TextAt → List (Result SaidAt Fault)
 entries [] = []

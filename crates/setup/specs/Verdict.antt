@@ -11,7 +11,7 @@ use Rattle.std.specs.declared.option.Option.{Option}
 use Rattle.std.specs.declared.option.Option.the-variants.{None, Some}
 use Rattle.std.specs.declared.result.Result.{Result}
 use Rattle.std.specs.declared.result.Result.the-variants.{Ok, Err}
-use Rattle.fault.specs.Faults.{unplaced}
+use Rattle.fault.specs.Faults.{faultAt, unplaced}
 use Rattle.fault.specs.declared.Cause.the-variants.{ListTooLong, NoTrailer, TrailerCount}
 use Rattle.fault.specs.declared.Fault.{Fault}
 use Rattle.fault.specs.declared.Place.{Place}
@@ -26,16 +26,20 @@ lastOf ts = lastOr None ts
 -- a trailer counts the bytes before it
 abbrev pub countFault : Place → Option ℕ → Option Fault
 countFault p None = Some (unplaced NoTrailer)
-countFault p (Some count) = cond (eqb count (p .offset)) None (Some (record { cause = TrailerCount; place = p }))
+countFault p (Some count) = cond (eqb count (p .offset)) None (Some (faultAt TrailerCount p))
 
 -- the last line is a trailer
 abbrev pub trailerFault : Option TextAt → Option Fault
 trailerFault None = Some (unplaced NoTrailer)
 trailerFault (Some t) = countFault (t .place) (given (formOf (t .text)) trailerCount)
 
+-- a list has at most 24,576 bytes
+abbrev pub lengthFault : List ℕ → Option Fault
+lengthFault bs = cond (ltb 24576 (length bs)) (Some (unplaced ListTooLong)) None
+
 -- what comes before any line: too long a list, no trailer, a wrong count
 abbrev pub endsFault : List ℕ → Option Fault
-endsFault bs = cond (ltb 24576 (length bs)) (Some (unplaced ListTooLong)) (trailerFault (lastOf (laid bs)))
+endsFault bs = orOther (lengthFault bs) (trailerFault (lastOf (laid bs)))
 
 -- the fault of the first faulty line
 abbrev pub firstIn : List (Result SaidAt Fault) → Option Fault

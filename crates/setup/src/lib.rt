@@ -4,13 +4,13 @@ ghost use Rattle.form.specs.Forms.{given, trailerCount, formOf};
 ghost use Rattle.std.specs.Options.{mapped};
 ghost use Rattle.std.specs.Orderings.{Decides};
 ghost use Rattle.std.specs.Results.{isOk};
-ghost use Rattle.std.specs.declared.option.Option.the-variants.{Some};
 ghost use Rattle.setup.specs.Lines.{laid};
 ghost use Rattle.setup.specs.Reading.{textAt, entries};
-ghost use Rattle.setup.specs.Verdict.{lastOf, trailerFault, endsFault, firstIn, firstFault, verdict, Newline};
+ghost use Rattle.setup.specs.Verdict.{lastOf, countFault, trailerFault, lengthFault, endsFault, firstIn, firstFault, verdict, Newline};
 ghost use Rattle.setup.specs.WellMade.{WellMade};
 use fault::Cause;
 use fault::Fault;
+use fault::Place;
 use form::parse_line;
 use reader::Reader;
 use reader::Text;
@@ -39,18 +39,31 @@ fn trailer_count(text: &[u8]) -> Option<u16>
     parse_line(text)?.trailer_count()
 }
 
-fn check_trailer(last: Text<'_>) -> Result<(), Fault>
-    ensures { λ r. ⌜ r ≡ verdict (trailerFault (Some (textAt (last .entry)))) ⌝ }
+// A trailer counts the bytes before it.
+fn check_count(place: Place, count: Option<u16>) -> Result<(), Fault>
+    ensures { λ r. ⌜ r ≡ verdict (countFault place count) ⌝ }
 {
-    let Some(count) = trailer_count(last.bytes) else {
-        return Err(Fault::unplaced(Cause::NoTrailer));
-    };
-    let place = last.place;
-    if usize::from(count) != place.offset {
-        return Err(Fault {
-            cause: Cause::TrailerCount,
-            place,
-        });
+    match count {
+        Some(count) if usize::from(count) == place.offset => Ok(()),
+        Some(_) => Err(Cause::TrailerCount.at(place)),
+        None => Err(Cause::NoTrailer.unplaced()),
+    }
+}
+
+fn check_last(last: Option<Text<'_>>) -> Result<(), Fault>
+    ensures { λ r. ⌜ r ≡ verdict (trailerFault (mapped textAt (last .entry))) ⌝ }
+{
+    match last {
+        Some(text) => check_count(text.place, trailer_count(text.bytes)),
+        None => Err(Cause::NoTrailer.unplaced()),
+    }
+}
+
+fn check_length(list: &[u8]) -> Result<(), Fault>
+    ensures { λ r. ⌜ r ≡ verdict (lengthFault (now (list .entry))) ⌝ }
+{
+    if list.len() > LONGEST {
+        return Err(Cause::ListTooLong.unplaced());
     }
     Ok(())
 }
@@ -59,13 +72,8 @@ fn check_trailer(last: Text<'_>) -> Result<(), Fault>
 pub fn check_ends(list: &[u8]) -> Result<(), Fault>
     ensures { λ r. ⌜ r ≡ verdict (endsFault (now (list .entry))) ⌝ }
 {
-    if list.len() > LONGEST {
-        return Err(Fault::unplaced(Cause::ListTooLong));
-    }
-    match last_text(list) {
-        Some(last) => check_trailer(last),
-        None => Err(Fault::unplaced(Cause::NoTrailer)),
-    }
+    check_length(list)?;
+    check_last(last_text(list))
 }
 
 // The first line that has none of the four forms, or is a trailer too early.
@@ -78,12 +86,18 @@ fn check_lines(list: &[u8]) -> Result<(), Fault>
     Ok(())
 }
 
+fn check_whole(list: &[u8]) -> Result<(), Fault>
+    ensures { λ r. ⌜ r ≡ verdict (firstFault (now (list .entry))) ⌝ }
+{
+    check_ends(list)?;
+    check_lines(list)
+}
+
 // Whether the list is well made, whatever units it is for.
 pub fn check_list(list: &[u8]) -> Result<(), Fault>
     ensures verdict { λ r. ⌜ r ≡ verdict (firstFault (now (list .entry))) ⌝ }
     ensures made { λ r. ⌜ Decides (isOk r) (WellMade (now (list .entry))) ⌝ }
     ensures newline { λ r. ⌜ Newline (now (list .entry)) r ⌝ }
 {
-    check_ends(list)?;
-    check_lines(list)
+    check_whole(list)
 }
