@@ -76,15 +76,15 @@ fn is_printable(b: u8) -> bool
     b >= 0x20 && b <= 0x7e
 }
 
+// No early return: a loop that always runs to the end is compiled to vector instructions.
 fn all_printable(text: &[u8]) -> bool
     ensures { λ r. ⌜ r ≡ allPrintable (now (text .entry)) ⌝ }
 {
+    let mut all = true;
     for b in text {
-        if !is_printable(*b) {
-            return false;
-        }
+        all &= is_printable(*b);
     }
-    true
+    all
 }
 
 fn write_line(text: &[u8]) -> Option<Line<'_>>

@@ -21,10 +21,10 @@ one-byte true b ls some newline = ap (λ n. n ∷ rejoined ls) (sym (newline ref
 one-byte false b [] some newline = absurd (omega arith)
 one-byte false b (l ∷ ls) some newline = refl
 
-some-lines : (bs : List ℕ) → 0 < length bs → 0 < length (lines bs)
+pub some-lines : (bs : List ℕ) → 0 < length bs → 0 < length (lines bs)
 some-lines bs h = omega (arith, ap length (lines-more bs h))
 
-rejoined-back : (front : List ℕ) (b : ℕ) → rejoined (lines (front ++ b ∷ [])) ≡ front ++ rejoined (lines (b ∷ []))
+pub rejoined-back : (front : List ℕ) (b : ℕ) → rejoined (lines (front ++ b ∷ [])) ≡ front ++ rejoined (lines (b ∷ []))
 rejoined-back [] b = refl
 rejoined-back (a ∷ front) b =
     one-byte (eqb a 10) a (lines (front ++ b ∷ [])) (some-lines (front ++ b ∷ []) (simp length-append (omega arith))) (eqb-true a 10)

@@ -1,3 +1,4 @@
 pub mod Cuts
+pub mod Last
 pub mod Lined
 pub mod Made

@@ -95,7 +95,7 @@ lines-few (b ∷ bs) = few (eqb b 10) (lines bs) (lines-few bs)
     few false [] h = omega arith
     few false (l ∷ ls) h = omega arith
 
-length-laid : (p : Place) (ls : List (List ℕ)) → length (layOut p ls) ≡ length ls
+pub length-laid : (p : Place) (ls : List (List ℕ)) → length (layOut p ls) ≡ length ls
 length-laid p [] = refl
 length-laid p (l ∷ ls) = ap suc (length-laid (past p l) ls)
 

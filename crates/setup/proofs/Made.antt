@@ -35,9 +35,7 @@ use Rattle.setup.specs.Reading.{SaidAt, entryFrom, entries}
 use Rattle.setup.specs.Verdict.{lastOf, countFault, trailerFault, lengthFault, endsFault, firstIn, firstFault, verdict, Newline}
 use Rattle.setup.specs.WellMade.{Plain, written, WellMade}
 use Rattle.setup.proofs.Cuts.{over, cut}
-
-abbrev NoNewline : List ℕ → Type 0
-NoNewline l = All (λ b. b ≡ 10 → ⊥) l
+use Rattle.setup.proofs.Last.{NoNewline, line-first, line-last, pastAll, past-offset, last-line}
 
 apart : (b : ℕ) → 10 < b → b ≡ 10 → ⊥
 apart b h e = omega arith
@@ -54,19 +52,6 @@ spelled-plain (fans a n) h = (apart 102 (lit< tt), (space, (digit (a / 16), (dig
 spelled-plain (remark text) h = (apart 35 (lit< tt), (space, all-weaker (λ b. (32 ≤ b) × (b ≤ 126)) (λ b. b ≡ 10 → ⊥) (λ b k. apart b (omega (arith, k .0))) text (h .1)))
 spelled-plain (trailer n) h = (apart 116 (lit< tt), (space, (digit (n / 256 / 16), (digit (n / 256 % 16), (digit (n % 256 / 16), (digit (n % 256 % 16), tt))))))
 
--- a line is what stands before the first newline
-line-first : (l bs : List ℕ) → NoNewline l → lines (l ++ 10 ∷ bs) ≡ l ∷ lines bs
-line-first [] bs h = refl
-line-first (b ∷ l) bs h =
-    let other = ne-eqb b 10 (h .0) in
-    rw (other, line-first l bs (h .1))
-
-line-last : (b : ℕ) (l : List ℕ) → NoNewline (b ∷ l) → lines (b ∷ l) ≡ (b ∷ l) ∷ []
-line-last b [] h = let other = ne-eqb b 10 (h .0) in rw other
-line-last b (d ∷ l) h =
-    let other = ne-eqb b 10 (h .0) in
-    rw (other, line-last d l (h .1))
-
 rejoined-spelled : (ss : List Said) → rejoined (map spelled ss) ≡ written ss
 rejoined-spelled [] = refl
 rejoined-spelled (s ∷ ss) = ap (λ bs. (spelled s ++ 10 ∷ []) ++ bs) (rejoined-spelled ss)
@@ -81,21 +66,6 @@ lines-written (s ∷ ss) bs h =
     ap lines (append-assoc (spelled s ++ 10 ∷ []) (written ss) bs ∙ append-assoc (spelled s) (10 ∷ []) (written ss ++ bs))
     ∙ line-first (spelled s) (written ss ++ bs) (spelled-plain s (h .0 .0))
     ∙ ap (λ ls. spelled s ∷ ls) (lines-written ss bs (h .1))
-
--- where the line after ls begins, if ls begin at p
-pastAll : Place → List (List ℕ) → Place
-pastAll p [] = p
-pastAll p (l ∷ ls) = pastAll (past p l) ls
-
-past-offset : (p : Place) (ls : List (List ℕ)) → pastAll p ls .offset ≡ p .offset + length (rejoined ls)
-unfolding pastAll
-past-offset p [] = omega arith
-past-offset p (l ∷ ls) = simp length-append (omega (arith, past-offset (past p l) ls))
-
-last-line : (p : Place) (ls : List (List ℕ)) (l : List ℕ) (o : Option TextAt) → lastOr o (layOut p (ls ++ l ∷ [])) ≡ Some (record { place = pastAll p ls; text = l })
-unfolding pastAll
-last-line p [] l o = refl
-last-line p (k ∷ ls) l o = last-line (past p k) ls l (Some (record { place = p; text = k }))
 
 good-lines : (p : Place) (ss : List Said) (n : ℕ) → All Plain ss → n < 65536 → firstIn (entries (layOut p (map spelled ss ++ spelled (trailer n) ∷ []))) ≡ None
 good-lines p [] n h few = let back = spelled-back (trailer n) few in rw back

@@ -1,19 +1,19 @@
 // The set-up list: its lines, one after the other, and whether it is well made.
 ghost use mathlib.Core.Path.{_≡_};
+ghost use Prim.Native.Nat.{ℕ, _-_, _<_, _≤_};
+ghost use lib.ListN.{length, getD};
 ghost use Rattle.form.specs.Forms.{given, trailerCount, formOf};
-ghost use Rattle.std.specs.Options.{mapped};
 ghost use Rattle.std.specs.Orderings.{Decides};
 ghost use Rattle.std.specs.Results.{isOk};
 ghost use Rattle.setup.specs.Lines.{laid};
-ghost use Rattle.setup.specs.Reading.{textAt, entries};
-ghost use Rattle.setup.specs.Verdict.{lastOf, countFault, trailerFault, lengthFault, endsFault, firstIn, firstFault, verdict, Newline};
+ghost use Rattle.setup.specs.Reading.{entries};
+ghost use Rattle.setup.specs.Verdict.{LastEnd, lastPlace, lastOf, countFault, trailerFault, lengthFault, endsFault, firstIn, firstFault, verdict, Newline};
 ghost use Rattle.setup.specs.WellMade.{WellMade};
 use fault::Cause;
 use fault::Fault;
 use fault::Place;
 use form::parse_line;
 use reader::Reader;
-use reader::Text;
 use reader::steps::Entries;
 
 pub mod reader;
@@ -21,15 +21,41 @@ pub mod reader;
 // The most bytes that a list has.
 pub const LONGEST: usize = 24_576;
 
-fn last_text(list: &[u8]) -> Option<Text<'_>>
-    ensures { λ r. ⌜ mapped textAt r ≡ lastOf (laid (now (list .entry))) ⌝ }
+// Where a final newline stands, or the end of a list that lacks it.
+fn last_end(list: &[u8]) -> usize
+    ensures { λ r. ⌜ LastEnd (now (list .entry)) r ⌝ }
 {
-    let mut reader = Reader::new(list);
-    let mut last = None;
-    while let Some(text) = reader.next_text() {
-        last = Some(text);
+    let len = list.len();
+    if len > 0 && list[len - 1] == b'\n' {
+        len - 1
+    } else {
+        len
     }
-    last
+}
+
+// Where the line that ends at `end` begins. Searched from the end, since the last line is asked for before any other.
+fn line_start(list: &[u8], end: usize) -> usize
+    requires { ⌜ end ≤ length (now list) ⌝ }
+    ensures within { λ r. ⌜ r ≤ end ⌝ }
+    ensures begins { λ r. ⌜ (0 < r → getD (now (list .entry)) (r - 1) 0 ≡ 10) ⌝ }
+    ensures single { λ r. ⌜ ((k : ℕ) → r ≤ k → k < end → getD (now (list .entry)) k 0 ≡ 10 → ⊥) ⌝ }
+{
+    let mut start = end;
+    while start > 0 && list[start - 1] != b'\n' {
+        start -= 1;
+    }
+    start
+}
+
+fn line_count(list: &[u8]) -> usize
+    ensures { λ r. ⌜ r ≡ length (laid (now (list .entry))) ⌝ }
+{
+    let mut lines = 0;
+    let mut reader = Reader::new(list);
+    while let Some(_) = reader.next_text() {
+        lines += 1;
+    }
+    lines
 }
 
 // The count of a line's trailer, if it is one.
@@ -39,24 +65,26 @@ fn trailer_count(text: &[u8]) -> Option<u16>
     parse_line(text)?.trailer_count()
 }
 
-// A trailer counts the bytes before it.
-fn check_count(place: Place, count: Option<u16>) -> Result<(), Fault>
-    ensures { λ r. ⌜ r ≡ verdict (countFault place count) ⌝ }
+// A trailer counts the bytes before it. The lines are counted only for a fault.
+fn check_count(list: &[u8], start: usize, count: Option<u16>) -> Result<(), Fault>
+    ensures { λ r. ⌜ r ≡ verdict (countFault (lastPlace (now (list .entry)) start) count) ⌝ }
 {
     match count {
-        Some(count) if usize::from(count) == place.offset => Ok(()),
-        Some(_) => Err(Cause::TrailerCount.at(place)),
+        Some(count) if usize::from(count) == start => Ok(()),
+        Some(_) => Err(Cause::TrailerCount.at(Place {
+            line: line_count(list),
+            offset: start,
+        })),
         None => Err(Cause::NoTrailer.unplaced()),
     }
 }
 
-fn check_last(last: Option<Text<'_>>) -> Result<(), Fault>
-    ensures { λ r. ⌜ r ≡ verdict (trailerFault (mapped textAt (last .entry))) ⌝ }
+fn check_trailer(list: &[u8]) -> Result<(), Fault>
+    ensures { λ r. ⌜ r ≡ verdict (trailerFault (lastOf (laid (now (list .entry))))) ⌝ }
 {
-    match last {
-        Some(text) => check_count(text.place, trailer_count(text.bytes)),
-        None => Err(Cause::NoTrailer.unplaced()),
-    }
+    let end = last_end(list);
+    let start = line_start(list, end);
+    check_count(list, start, trailer_count(&list[start..end]))
 }
 
 fn check_length(list: &[u8]) -> Result<(), Fault>
@@ -73,7 +101,7 @@ pub fn check_ends(list: &[u8]) -> Result<(), Fault>
     ensures { λ r. ⌜ r ≡ verdict (endsFault (now (list .entry))) ⌝ }
 {
     check_length(list)?;
-    check_last(last_text(list))
+    check_trailer(list)
 }
 
 // The first line that has none of the four forms, or is a trailer too early.

@@ -1,0 +1,2 @@
+-- What the functions for C answer.
+pub mod Answers
