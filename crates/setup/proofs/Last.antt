@@ -18,7 +18,8 @@ use Rattle.fault.specs.declared.Place.{Place}
 use Rattle.setup.specs.Cutting.{rejoined}
 use Rattle.setup.specs.Lines.{onto, lines, TextAt, past, layOut, laid}
 use Rattle.form.specs.Forms.{given, trailerCount, formOf}
-use Rattle.setup.specs.Verdict.{LastEnd, lastPlace, lastOf, countFault, trailerFault}
+use Rattle.setup.specs.LastLine.{LastEnd, lastPlace}
+use Rattle.setup.specs.Verdict.{lastOf, countFault, trailerFault}
 use Rattle.setup.proofs.Cuts.{rejoined-back, some-lines}
 use Rattle.setup.proofs.Lined.{length-laid}
 

@@ -7,7 +7,7 @@ use Rattle.std.specs.Joined.{joined}
 use Rattle.std.specs.shelf.Lists.{All}
 use Rattle.setup.specs.Lines.{TextAt, laid}
 
--- the last line lacks its newline: the list has a last byte, and that is none
+-- the last line lacks its newline: the list has a last byte, and that is no newline
 abbrev pub Unended : List ℕ → Type 0
 Unended bs = (front : List ℕ) × (b : ℕ) × (bs ≡ front ++ b ∷ []) × (b ≡ 10 → ⊥)
 

@@ -1,4 +1,5 @@
 pub mod Cutting
+pub mod LastLine
 pub mod Lines
 pub mod Reading
 pub mod Verdict

@@ -2,10 +2,9 @@
 use mathlib.Core.Path.{_≡_}
 use mathlib.Core.Bool.{cond}
 use mathlib.Core.List.{List, [], _∷_, _++_}
-use mathlib.Core.Logic.{_⊎_}
-use Prim.Native.Nat.{ℕ, _+_, _-_, _<_}
+use Prim.Native.Nat.{ℕ}
 use lib.Dec.{eqb, ltb}
-use lib.ListN.{length, getD}
+use lib.ListN.{length}
 use Rattle.std.specs.Iters.{lastOr}
 use Rattle.std.specs.Options.{orOther}
 use Rattle.std.specs.declared.option.Option.{Option}
@@ -23,14 +22,6 @@ use Rattle.setup.specs.Reading.{SaidAt, entries}
 
 abbrev pub lastOf : List TextAt → Option TextAt
 lastOf ts = lastOr None ts
-
--- the last line ends at n: there stands a final newline, or the list is empty or unended and ends itself
-abbrev pub LastEnd : List ℕ → ℕ → Type 0
-LastEnd bs n = ((n + 1 ≡ length bs) × (getD bs n 0 ≡ 10)) ⊎ ((n ≡ length bs) × (0 < n → getD bs (n - 1) 0 ≡ 10 → ⊥))
-
--- the place of the last line, if it begins at the offset o
-abbrev pub lastPlace : List ℕ → ℕ → Place
-lastPlace bs o = record { line = length (laid bs); offset = o }
 
 -- a trailer counts the bytes before it
 abbrev pub countFault : Place → Option ℕ → Option Fault

@@ -1,6 +1,7 @@
 use mathlib.Core.Path.{_≡_, sym, ap, _∙_}
 use borrow.Author.Needs.{needs}
-use Rattle.setup.specs.Verdict.{verdict, countFault, lastPlace}
+use Rattle.setup.specs.LastLine.{lastPlace}
+use Rattle.setup.specs.Verdict.{verdict, countFault}
 use Rattle.setup.proofs.Last.{LastLine, trailer-at}
 use Rattle.setup.proofs.check_trailer.Needs as need
 

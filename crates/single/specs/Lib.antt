@@ -1,0 +1,4 @@
+pub mod Kinds
+pub mod Meaning
+pub mod Registers
+pub mod Settings
