@@ -1,13 +1,12 @@
 -- A line is understood exactly as it is spelled.
-use mathlib.Core.Path.{_≡_, refl, sym, ap, subst, _∙_}
-use mathlib.Core.Bool.{Bool, true, false, cond, _&&_}
+use mathlib.Core.Path.{_≡_, refl, ap, subst, _∙_}
+use mathlib.Core.Bool.{true, _&&_}
 use mathlib.Core.List.{List, [], _∷_, _++_, map}
 use Prim.Native.Nat.{ℕ, _+_, _*_, _/_, _%_, _<_, _≤_}
 use native.Mathlib.Omega.{arith}
 use lib.Dec.{eqb, leb}
 use lib.ListN.{length, getD, drop, length-drop}
-use Rattle.std.specs.declared.option.Option.{Option}
-use Rattle.std.specs.declared.option.Option.the-variants.{None, Some}
+use Rattle.std.specs.declared.option.Option.the-variants.{Some}
 use Rattle.std.specs.Iters.{counting}
 use Rattle.std.specs.shelf.Lists.{All}
 use Rattle.std.proofs.shelf.Counted.{fill-by-all}
@@ -15,7 +14,7 @@ use Rattle.std.proofs.shelf.Tests.{and-parts, eqb-true, leb-true}
 use Rattle.std.proofs.shelf.Ways.{tells}
 use Rattle.form.specs.declared.Opening.{Opening}
 use Rattle.form.specs.declared.Opening.the-variants as opens
-use Rattle.form.specs.Forms.{Said, write, fans, remark, trailer, given, within, decimalDigit, hexDigit, hexByte, byteAt, spaced, printable, allPrintable, remarkShaped, asWrite, asFans, asRemark, asTrailer, opening, formed, formOf}
+use Rattle.form.specs.Forms.{Said, write, fans, remark, trailer, within, decimalDigit, hexDigit, hexByte, byteAt, spaced, printable, allPrintable, remarkShaped, asWrite, asFans, asRemark, asTrailer, opening, formed, formOf}
 use Rattle.form.proofs.Options.{none-some, some-is, given-some, cond-some}
 use Rattle.form.specs.Spelling.{hexOf, hexOfByte, spelled, Sayable, Spells, Understood}
 

@@ -1,9 +1,9 @@
 -- A list is found good exactly when it is well made.
-use mathlib.Core.Path.{_≡_, refl, sym, ap, subst, _∙_}
+use mathlib.Core.Path.{_≡_, refl, sym, ap, _∙_}
 use mathlib.Core.Bool.{Bool, true, false, cond, _&&_, not}
 use mathlib.Core.List.{List, [], _∷_, _++_, map, append-assoc, append-nil}
 use mathlib.Core.Logic.{_⊎_, inl, inr, ⊎-elim}
-use Prim.Native.Nat.{ℕ, suc, _+_, _/_, _%_, _<_, _≤_}
+use Prim.Native.Nat.{ℕ, _+_, _/_, _%_, _<_, _≤_}
 use native.Mathlib.Nat.{zero-add}
 use native.Mathlib.Omega.{arith}
 use lib.Dec.{eqb, ltb, lit<}
@@ -17,20 +17,20 @@ use Rattle.std.specs.Options.{isSome, orOther}
 use Rattle.std.specs.Orderings.{Decides}
 use Rattle.std.specs.Results.{isOk}
 use Rattle.std.specs.shelf.Lists.{All}
-use Rattle.std.proofs.shelf.Elements.{all-weaker, all-append}
+use Rattle.std.proofs.shelf.Elements.{all-weaker}
 use Rattle.std.proofs.shelf.Lists.{append-cancel-right}
-use Rattle.std.proofs.shelf.Tests.{true≢false, ne-eqb, eq-eqb, le-ltb, ltb-false, cond-true, cond-false}
+use Rattle.std.proofs.shelf.Tests.{true≢false, eq-eqb, le-ltb, ltb-false, cond-true, cond-false}
 use Rattle.std.proofs.shelf.Ways.{tells}
 use Rattle.fault.specs.Faults.{faultAt, unplaced}
 use Rattle.fault.specs.declared.Cause.the-variants.{ListTooLong, NoForm}
 use Rattle.fault.specs.declared.Fault.{Fault}
 use Rattle.fault.specs.declared.Place.{Place}
 use Rattle.form.specs.Forms.{Said, write, fans, remark, trailer, trailerCount, given, formOf}
-use Rattle.form.specs.Spelling.{hexOf, hexOfByte, spelled, Sayable}
+use Rattle.form.specs.Spelling.{hexOf, spelled, Sayable}
 use Rattle.form.proofs.Options.{none-some, some-is}
 use Rattle.form.proofs.Spelled.{spelled-back, understood}
 use Rattle.setup.specs.Cutting.{Unended, rejoined}
-use Rattle.setup.specs.Lines.{onto, lines, TextAt, past, layOut, laid}
+use Rattle.setup.specs.Lines.{lines, TextAt, past, layOut, laid}
 use Rattle.setup.specs.Reading.{SaidAt, entryFrom, entries}
 use Rattle.setup.specs.Verdict.{lastOf, countFault, trailerFault, lengthFault, endsFault, firstIn, firstFault, verdict, Newline}
 use Rattle.setup.specs.WellMade.{Plain, written, WellMade}

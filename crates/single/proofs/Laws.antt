@@ -1,8 +1,8 @@
 -- What the single unit shows of its kind.
 use mathlib.Core.List.{List, [], _∷_}
-use mathlib.Core.Path.{_≡_, refl, sym, ap, subst, _∙_}
-use mathlib.Core.Bool.{Bool, true, false, cond, not, _&&_, _||_}
-use Prim.Native.Nat.{ℕ, max, _+_, _*_, _%_, _<_, _≤_}
+use mathlib.Core.Path.{_≡_, refl, sym, ap, _∙_}
+use mathlib.Core.Bool.{Bool, true, false, cond, _&&_, _||_}
+use Prim.Native.Nat.{ℕ, max, _%_, _<_, _≤_}
 use native.Mathlib.Omega.{arith}
 use lib.Bits.{bitAnd, and-le-l}
 use lib.Dec.{T, eqb, ltb, lit<}
@@ -10,7 +10,6 @@ use lib.IntN.{ℤ, natAbs}
 use lib.Signed.{ltZ, _≤ℤ_}
 use borrow.Author.Differences.{ints}
 use Rattle.control.specs.Range.{degrees}
-use Rattle.control.specs.Loop.{turnedBy}
 use Rattle.control.proofs.Rising.{level-rises, on-survives}
 use Rattle.fault.specs.declared.Cause.the-variants.{NoRegister, ReadOnly, RangeCode}
 use Rattle.fault.specs.declared.Fault.{Fault}
@@ -19,11 +18,11 @@ use Rattle.std.specs.shelf.Lists.{All}
 use Rattle.std.specs.declared.option.Option.{Option}
 use Rattle.std.specs.declared.option.Option.the-variants.{None, Some}
 use Rattle.std.specs.declared.result.Result.{Result}
-use Rattle.std.specs.declared.result.Result.the-variants.{Ok, Err}
+use Rattle.std.specs.declared.result.Result.the-variants.{Ok}
 use Rattle.quantity.proofs.Masks.{mask-again}
 use Rattle.std.proofs.shelf.Tests.{true≢false, cond-true}
-use Rattle.std.proofs.shelf.Ways.{tells}
 use Rattle.unit.specs.Answers.{refused}
+use Rattle.unit.proofs.Served.{never}
 use Rattle.unit.specs.Order.{NoMilder, Order, Again, Faithful}
 use Rattle.single.specs.declared.own.Loop.{Loop}
 use Rattle.single.specs.declared.own.Own.{Own}
@@ -32,7 +31,7 @@ use Rattle.single.specs.declared.register.Channel.the-variants.{Local, Remote}
 use Rattle.single.specs.declared.register.Register.{Register}
 use Rattle.single.specs.declared.register.Register.the-variants.{Setting, Code, Tach, Reading}
 use Rattle.single.specs.Registers.{Row, rows, look, registerAt, powerOnByte, isReading, isSetting, isBadCode, namedBits}
-use Rattle.single.specs.Kinds.{single, heard, withTach, withTemperature, levelFrom, reportedTo, baseFrom, isTemperature, Warmer, HotterOwn}
+use Rattle.single.specs.Kinds.{single, heard, withTach, withTemperature, levelFrom, reportedTo, baseFrom, Warmer, HotterOwn}
 use Rattle.single.specs.Settings.{startAt, codeAt, minimum, monitoring, limit}
 
 fails-more : (s : ℕ → ℕ) (n : ℕ) (v w : ℤ) → v ≤ℤ w → T (ltZ (limit s n) v) → T (ltZ (limit s n) w)
@@ -97,9 +96,6 @@ setting-settable (Some (Reading c)) h = absurd h
 -- what a write to a register that is this answers
 abbrev answerFor : Option Register → ℕ → Result (Unit {0}) Fault
 answerFor o b = cond (isSome o) (cond (isReading o) (refused ReadOnly) (cond (isBadCode o b) (refused RangeCode) (Ok tt))) (refused NoRegister)
-
-never : {A B : Type 0} {e : A} {x : B} → Err e ≡ Ok x → ⊥
-never e = let z : _≡_ {A = ℕ} 0 1 = cc in omega arith
 
 served-setting : (o : Option Register) (b : ℕ) → answerFor o b ≡ Ok tt → isSetting o ≡ true
 served-setting None b e = absurd (never e)

@@ -1,16 +1,13 @@
 -- Settings that are kept in two places, as one function of the register.
-use mathlib.Core.Path.{_≡_, refl, sym, ap, _∙_}
+use mathlib.Core.Path.{_≡_, sym, ap, _∙_}
 use mathlib.Core.Bool.{cond, not, _&&_}
 use Prim.Native.Nat.{ℕ}
 use native.Mathlib.Omega.{arith}
 use lib.Bits.{bitAnd}
-use lib.Dec.{eqb}
 use Rattle.std.proofs.shelf.Ways.{tells}
-use Rattle.std.specs.declared.option.Option.{Option}
-use Rattle.std.specs.declared.option.Option.the-variants.{None, Some}
+use Rattle.std.specs.declared.option.Option.the-variants.{Some}
 use Rattle.unit.specs.Steps.{put}
-use Rattle.single.specs.declared.register.Register.{Register}
-use Rattle.single.specs.declared.register.Register.the-variants.{Setting, Code, Tach, Reading}
+use Rattle.single.specs.declared.register.Register.the-variants.{Setting}
 use Rattle.single.specs.declared.settings.Codes.{Codes}
 use Rattle.single.specs.Registers.{registerAt, powerOnByte, isSetting, isBadCode, namedBits}
 use Rattle.single.specs.Settings.{overlaid, plainBytes, storedIn}

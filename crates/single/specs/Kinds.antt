@@ -1,5 +1,4 @@
 -- The single unit as a kind.
-use mathlib.Core.Path.{_≡_}
 use mathlib.Core.Bool.{Bool, true, false, cond, not, _||_}
 use Prim.Native.Nat.{ℕ, max}
 use lib.Dec.{T, eqb}

@@ -4,7 +4,7 @@ use mathlib.Core.List.{List, [], _∷_}
 use Prim.Native.Nat.{ℕ, _%_}
 use lib.Bits.{bitAnd}
 use lib.Dec.{eqb, ltb}
-use Rattle.std.specs.Options.{isSome, mapped, valueOr}
+use Rattle.std.specs.Options.{mapped, valueOr}
 use Rattle.std.specs.declared.option.Option.{Option}
 use Rattle.std.specs.declared.option.Option.the-variants.{None, Some}
 use Rattle.single.specs.declared.register.Channel.the-variants.{Local, Remote}

@@ -1,5 +1,4 @@
 -- What a set-up list holds, and the line that tells it.
-use mathlib.Core.Bool.{Bool, true, false, cond}
 use mathlib.Core.List.{List, [], _∷_, _++_}
 use Prim.Native.Nat.{ℕ, _+_}
 use lib.Chars.{codes}
@@ -10,8 +9,7 @@ use Rattle.std.specs.declared.result.Result.{Result}
 use Rattle.std.specs.declared.result.Result.the-variants.{Ok, Err}
 use Rattle.fault.specs.declared.Fault.{Fault}
 use Rattle.form.specs.Forms.{Said, write, fans, remark, trailer, formOf}
-use Rattle.setup.specs.Lines.{TextAt, laid}
-use Rattle.setup.specs.Verdict.{firstFault}
+use Rattle.setup.specs.Lines.{TextAt}
 use Rattle.summary.specs.declared.Summary.{Summary}
 
 -- 1 for a line of the form, and 0 for any other

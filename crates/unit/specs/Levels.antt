@@ -1,5 +1,4 @@
 -- What a unit asks of the line, of INT and of its fans.
-use mathlib.Core.Path.{_≡_}
 use mathlib.Core.Bool.{Bool, false, cond, _&&_, _||_}
 use mathlib.Core.Logic.{_⊎_}
 use Prim.Native.Nat.{ℕ, zero, suc, max, _<_, _≤_}

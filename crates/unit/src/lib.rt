@@ -1,6 +1,5 @@
 // What a unit means, whatever its kind, and what is the same for every kind.
 ghost use mathlib.Core.Path.{_≡_};
-ghost use mathlib.Core.Bool.{Bool};
 ghost use Rattle.unit.specs.Answers.{writeAnswer, readAnswer, reportAnswer};
 ghost use Rattle.unit.specs.Kind.{Kind, State};
 ghost use Rattle.unit.specs.Levels.{standsIn, baseOf};

@@ -1,5 +1,4 @@
-use mathlib.Core.Path.{_≡_, sym, ap, _∙_}
-use borrow.Author.Needs.{needs}
+use mathlib.Core.Path.{sym, ap, _∙_}
 use Rattle.setup.specs.LastLine.{lastPlace}
 use Rattle.setup.specs.Verdict.{verdict, countFault}
 use Rattle.setup.proofs.Last.{LastLine, trailer-at}

@@ -1,5 +1,4 @@
 use mathlib.Core.Path.{ap, _∙_}
-use borrow.Author.Needs.{needs}
 use lib.ListN.{getD}
 use Rattle.unit.proofs.Parts.{all-same}
 use Rattle.unit.proofs.page.Page.zero.Needs as need
