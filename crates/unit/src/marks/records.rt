@@ -33,13 +33,19 @@ impl<const N: usize> Marks<N> {
         self.get(source).reported(fails, latches)
     }
 
+    fn set(&mut self, index: usize, mark: Mark)
+        ensures { λ _. ⌜ marksOf (now (self .exit)) ≡ cond (ltb index N) (put (marksOf (now (self .entry))) index mark) (marksOf (now (self .entry))) ⌝ }
+    {
+        if index < N {
+            self.records[index] = mark;
+        }
+    }
+
     // A report changes the mark of its source, if that is there.
     pub fn report(&mut self, source: usize, fails: bool, latches: bool)
         ensures { λ _. ⌜ marksOf (now (self .exit)) ≡ cond (ltb source N) (put (marksOf (now (self .entry))) source (marked fails latches (marksOf (now (self .entry)) source))) (marksOf (now (self .entry))) ⌝ }
     {
         let mark = self.reported(source, fails, latches);
-        if source < N {
-            self.records[source] = mark;
-        }
+        self.set(source, mark);
     }
 }
