@@ -1,5 +1,7 @@
 // The library's check of a set-up list and its level of a control loop, as functions for C.
 // include/fanrack.h declares them. A C caller is held to no `requires`, so they have none.
+#![tactic(auto)]
+
 ghost use Rattle.std.specs.Prelude.{◌≡◌, pos};
 ghost use Rattle.capi.specs.Answers.{listAnswer, isOn, level_answer};
 

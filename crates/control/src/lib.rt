@@ -1,4 +1,6 @@
 // One control loop of a fan: whether a report of its reading turns it on, and the level that it then asks for.
+#![tactic(auto)]
+
 ghost use Rattle.std.specs.Prelude.{◌≡◌, ◌≤◌};
 ghost use Rattle.control.specs.Laws.{LevelBounded, LevelRises, OnSurvives};
 ghost use Rattle.control.specs.Loop.{is_below, level_on, loop_level, ramp_level, turned_by};

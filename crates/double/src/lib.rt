@@ -1,4 +1,6 @@
 // The double unit: two fans with their sources, and three temperatures.
+#![tactic(auto)]
+
 ghost use Rattle.std.specs.Prelude.{◌≡◌, ◌%◌, T};
 ghost use Rattle.double.specs.Examples.{WorkedExamples};
 ghost use Rattle.double.specs.Kinds.{alarm_byte, double, shown};

@@ -1,4 +1,6 @@
 // Checks the set-up list on standard input, and tells what it holds or its fault.
+#![tactic(auto)]
+
 use setup::LONGEST;
 use std::io::Read;
 use std::{env, io};

@@ -1,4 +1,6 @@
 // Why a call is refused, and where in a set-up list: the one fault type that every layer hands up.
+#![tactic(auto)]
+
 ghost use Rattle.std.specs.Prelude.{◌≡◌, Some};
 ghost use Rattle.fault.specs.Faults.{rule, fault_at, unplaced, fault_line};
 

@@ -1,4 +1,6 @@
 // The four forms of a set-up line: a write, a fan count, a remark, the trailer.
+#![tactic(auto)]
+
 ghost use Rattle.std.specs.Prelude.{◌≡◌};
 ghost use Rattle.std.specs.Option.{option_map};
 ghost use Rattle.form.specs.Forms.{opening, hex_digit, hex_byte, decimal_digit, printable, all_printable, meaning, trailer_count, remark_shaped, as_write, as_fans, as_remark, as_trailer, formed, form_of};

@@ -1,4 +1,6 @@
 // One conversion for each quantity that a register's byte holds.
+#![tactic(auto)]
+
 ghost use Rattle.std.specs.Prelude.{◌≡◌};
 ghost use Rattle.quantity.specs.Quantities.{bit, low_level, high_level, signed, byte_of};
 

@@ -1,4 +1,6 @@
 // What a register is for, whatever unit has it, and what follows from that for a write.
+#![tactic(auto)]
+
 ghost use Rattle.std.specs.Prelude.{◌≡◌};
 ghost use Rattle.registers.specs.Roles.{answer_to, is_setting};
 

@@ -1,4 +1,6 @@
 // The set-up list: its lines, one after the other, and whether it is well made.
+#![tactic(auto)]
+
 ghost use Rattle.std.specs.Prelude.{◌≡◌, ℕ, ◌-◌, ◌<◌, ◌≤◌, length, is_ok, Decides, ◌≢◌, slice_index};
 ghost use Rattle.form.specs.Forms.{given, trailer_count, form_of};
 ghost use Rattle.setup.specs.LastLine.{LastEnd, last_place};

@@ -1,4 +1,6 @@
 // Set-up lists with the exact verdict on each.
+#![tactic(auto)]
+
 #[cfg(test)]
 mod tests {
     use fault::{Cause, Fault, Place};

@@ -1,4 +1,6 @@
 // The single unit: one fan, a tachometer, and a local and a remote temperature.
+#![tactic(auto)]
+
 ghost use Rattle.std.specs.Prelude.{◌≡◌, T};
 ghost use Rattle.single.specs.Kinds.{single, is_temperature, reported_to};
 ghost use Rattle.single.specs.Meaning.{state_of, marked_by, shown_by};

@@ -1,4 +1,6 @@
 // Calls of a single unit, with the exact answer to each.
+#![tactic(auto)]
+
 #[cfg(test)]
 mod tests {
     use fault::{Cause, Fault};

@@ -1,4 +1,6 @@
 // What a set-up list holds: how many lines of each form come before its trailer.
+#![tactic(auto)]
+
 ghost use Rattle.std.specs.Prelude.{◌≡◌, ◌+◌, ◌^◌, ◌<◌, Some};
 ghost use Rattle.form.specs.Forms.{form_of};
 ghost use Rattle.setup.specs.Lines.{laid};

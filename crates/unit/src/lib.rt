@@ -1,4 +1,6 @@
 // What a unit means, whatever its kind, and what is the same for every kind.
+#![tactic(auto)]
+
 ghost use Rattle.std.specs.Prelude.{◌≡◌};
 ghost use Rattle.unit.specs.Answers.{writeAnswer, readAnswer, reportAnswer};
 ghost use Rattle.unit.specs.Kind.{Kind, State};

@@ -4,9 +4,9 @@ use Rattle.control.specs.Loop.{ramp_level}
 use Rattle.control.proofs.Slope.{ramp_to}
 use Rattle.control.proofs.ramp.Goals as goal
 
-pub overflow-cast-result : goal.overflow-cast-result
+pub overflow_cast-result : goal.overflow_cast-result
 unfolding ramp_level
-overflow-cast-result c = search (rules, ramp_to)
+overflow_cast-result c = search (rules, ramp_to)
 
 pub returns : goal.returns
 unfolding ramp_level

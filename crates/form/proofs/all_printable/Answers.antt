@@ -12,7 +12,7 @@ no_more true bs i h = sym (at_drop_all all_printable bs i h)
 no_more false bs i h = refl
 
 pub loop-b-preserved : goal.loop-b-preserved
-loop-b-preserved c = one_more _ _ _ _ c.loop-b-test.true c.is-printable-all.ensures ∙ c.loop-b.invariant
+loop-b-preserved c = one_more _ _ _ _ c.loop-b-test.true c.is_printable-all.ensures ∙ c.loop-b.invariant
 
 pub returns : goal.returns
 returns c = no_more _ _ _ c.loop-b-test.false ∙ c.loop-b.invariant

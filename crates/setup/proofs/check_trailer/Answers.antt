@@ -7,8 +7,8 @@ use Rattle.setup.proofs.check_trailer.Goals as goal
 pub returns : goal.returns
 returns c =
     let list = c.args.list.now in
-    let told = c.line-start-start.ensures in
-    let last : LastLine list c.line-start-start.result c.last-end-end.result = record { within = told.within; ends = c.last-end-end.ensures; begins = told.begins; single = told.single } in
-    c.check-count.ensures
-    ∙ ap (λ n. verdict (count_fault (last_place list c.line-start-start.result) n)) c.trailer-count.ensures
+    let told = c.line_start-start.ensures in
+    let last : LastLine list c.line_start-start.result c.last_end-end.result = record { within = told.within; ends = c.last_end-end.ensures; begins = told.begins; single = told.single } in
+    c.check_count.ensures
+    ∙ ap (λ n. verdict (count_fault (last_place list c.line_start-start.result) n)) c.trailer_count.ensures
     ∙ ap verdict (sym (trailer_at list _ _ last))

@@ -7,4 +7,4 @@ pub loop-text-init : goal.loop-text-init
 loop-text-init c = none_yet _ _ c.new-reader.ensures.ahead
 
 pub loop-text-preserved : goal.loop-text-preserved
-loop-text-preserved c = one_more _ _ _ _ _ (text_at c.in-Some.text) c.loop-text.invariant (search rules) c.next-text.ensures.ahead (search rules)
+loop-text-preserved c = one_more _ _ _ _ _ (text_at c.in-Some.text) c.loop-text.invariant (search rules) c.next_text.ensures.ahead (search rules)

@@ -12,11 +12,11 @@ use Rattle.double.specs.Sources.{said, served_source}
 use Rattle.double.proofs.Reported.{bare, report_answer, served_is, there}
 use Rattle.double.proofs.DoubleUnit.report.Goals as goal
 
-pub returns-in-err-served : goal.returns-in-err-served
-returns-in-err-served c =
+pub returns-in_err-served : goal.returns-in_err-served
+returns-in_err-served c =
     let n = c.args.source in
     let v = c.args.value in
-    let e = c.in-err-served.field-0.0 in
+    let e = c.in_err-served.field-0.0 in
     let failed : served_source v (source_at n) ≡ Err e = search rules in
     let out : c.from-residual.result ≡ Err e = search rules in
     record {
@@ -30,7 +30,7 @@ returns c =
     let is = c.note.new.self in
     let n = c.args.source in
     let v = c.args.value in
-    let x = c.in-ok-served.served in
+    let x = c.in_ok-served.served in
     let s = settings_of was.settings in
     let wide = c.ranges.value in
     let served : served_source v (source_at n) ≡ Ok x = search rules in

@@ -13,5 +13,5 @@ returns c =
     let page : settings_of c.write.new.self ≡ stored_as (role_at r) (settings_of was.settings) r b = search rules in
     record {
       answer = sym served;
-      after = λ i. record { strap = was.strap; page = page i; marks = c.end-holds.ensures i; own = was.own };
+      after = λ i. record { strap = was.strap; page = page i; marks = c.end_holds.ensures i; own = was.own };
     }

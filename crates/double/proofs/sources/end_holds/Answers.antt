@@ -12,7 +12,7 @@ loop-source-preserved c =
     let over : ℕ → Bool = λ n. of_source false (ends_hold c.args.register c.args.byte) n in
     c.end.ensures
     ∙ cond-true (ltb i 11) _ _ (lt-ltb i 11 c.loop-source-test.true)
-    ∙ (λ j. put (c.loop-source.invariant j) i (ended (c.ends-hold-of-over.ensures j) (c.loop-source.invariant j i)))
+    ∙ (λ j. put (c.loop-source.invariant j) i (ended (c.ends_hold_of-over.ensures j) (c.loop-source.invariant j i)))
     ∙ up_to_more (λ n m. ended (over n) m) (marks_of c.args.marks.now) i
 
 pub returns : goal.returns

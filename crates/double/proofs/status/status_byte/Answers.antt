@@ -9,5 +9,5 @@ returns c =
     let m = c.args.missing in
     let f = c.args.fault in
     let t = c.args.tach in
-    let h = c.args.hot-plug in
+    let h = c.args.hot_plug in
     record { value = value; shows = subst (λ n. AllShown n m f t h) (sym value) (all_shown m f t h) }

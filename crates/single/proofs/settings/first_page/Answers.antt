@@ -12,5 +12,5 @@ returns c =
     ∙ ap (λ f. put f 0x19 0x20) (c.put-3.ensures
     ∙ ap (λ f. put f 0x18 0x20) (c.put-2.ensures
     ∙ ap (λ f. put f 0x10 0x05) (c.put.ensures
-    ∙ ap (λ f. put f 0x00 0x10) c.zero_page.ensures))))))
+    ∙ ap (λ f. put f 0x00 0x10) c.zero-page.ensures))))))
     ∙ zero_page

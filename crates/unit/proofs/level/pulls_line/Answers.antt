@@ -3,5 +3,5 @@ use Rattle.unit.proofs.level.pulls_line.Goals as goal
 
 pub returns : goal.returns
 returns g c =
-    let is = c.is-pulling.ensures in
+    let is = c.is_pulling.ensures in
     record { value = is; decides = pulls_decides g.U.Unit.kind (g.U.Unit.state c.args.unit.now) _ is }

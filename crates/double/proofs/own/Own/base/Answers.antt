@@ -6,6 +6,6 @@ use Rattle.double.proofs.own.Own.base.Goals as goal
 
 pub returns : goal.returns
 returns c =
-    let value = c.base-of.ensures in
+    let value = c.base_of.ensures in
     let s = settings_of c.args.settings.now in
     record { value = value; is = subst (IsBase c.args.strap s c.args.self c.args.fan) (sym value) (is_base s c.args.self c.args.fan c.args.strap) }

@@ -15,4 +15,4 @@ pub returns-in-Temperature : goal.returns-in-Temperature
 returns-in-Temperature c =
     let wide = c.ranges.value in
     let narrow = fits_byte c.args.value c.in-Temperature.channel (subst (λ x. T (takes x c.args.value)) c.in-Temperature.is c.requires) in
-    simp to_z-of_z at c.with-temperature.ensures ∙ ap (reported_by (settings_of c.args.settings.now) c.args.self c.args.value) (sym c.in-Temperature.is)
+    simp to_z-of_z at c.with_temperature.ensures ∙ ap (reported_by (settings_of c.args.settings.now) c.args.self c.args.value) (sym c.in-Temperature.is)

@@ -4,8 +4,8 @@ use Rattle.registers.specs.Settings.{code_in, overlaid}
 use Rattle.registers.proofs.Kept.{codes_none, zero_none}
 use Rattle.registers.proofs.store.Store.zero.Goals as goal
 
-pub invariant-of-result : goal.invariant-of-result
-invariant-of-result g c = (length-replicate g.row.N c.narrowest.result, tt)
+pub invariant_of-result : goal.invariant_of-result
+invariant_of-result g c = record { full = length-replicate g.row.N c.narrowest.result }
 
 pub returns : goal.returns
 returns g c =

@@ -5,5 +5,5 @@ use Rattle.setup.proofs.reader.Reader.new.Goals as goal
 
 pub returns : goal.returns
 returns c =
-    let is = c.at-start.ensures in
+    let is = c.at_start.ensures in
     record { ahead = is; cut = subst (Cut c.args.list.now) (sym is) (cut c.args.list.now) }

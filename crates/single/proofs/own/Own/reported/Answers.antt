@@ -16,10 +16,10 @@ pub returns-in-1 : goal.returns-in-1
 returns-in-1 c =
     let wide = c.ranges.value in
     let narrow = fits_byte c.args.value c.args.source c.requires (inl c.in-1.is) in
-    simp to_z-of_z at c.with-temperature.ensures ∙ ap (λ n. reported_to (settings_of c.args.settings.now) c.args.self n c.args.value) (sym c.in-1.is)
+    simp to_z-of_z at c.with_temperature.ensures ∙ ap (λ n. reported_to (settings_of c.args.settings.now) c.args.self n c.args.value) (sym c.in-1.is)
 
 pub returns-in-2 : goal.returns-in-2
 returns-in-2 c =
     let wide = c.ranges.value in
     let narrow = fits_byte c.args.value c.args.source c.requires (inr c.in-2.is) in
-    simp to_z-of_z at c.with-temperature-in-2.ensures ∙ ap (λ n. reported_to (settings_of c.args.settings.now) c.args.self n c.args.value) (sym c.in-2.is)
+    simp to_z-of_z at c.with_temperature-in-2.ensures ∙ ap (λ n. reported_to (settings_of c.args.settings.now) c.args.self n c.args.value) (sym c.in-2.is)

@@ -6,6 +6,6 @@ use Rattle.single.proofs.settings.Settings.power_on.Goals as goal
 
 pub returns : goal.returns
 returns c =
-    let codes : Codes = record { local = c.first-range-range.result; remote = c.first-range-range.result } in
-    let three = c.first-range-range.ensures in
-    ap (overlaid codes) c.first-page.ensures ∙ first_settings codes three three
+    let codes : Codes = record { local = c.first_range-range.result; remote = c.first_range-range.result } in
+    let three = c.first_range-range.ensures in
+    ap (overlaid codes) c.first_page.ensures ∙ first_settings codes three three
