@@ -11,10 +11,10 @@ import sys
 # Lemmas whose name is their left side, one function of another.
 KEPT = {"set-put", "length-laid", "decides-T"}
 # A lemma that would have the name of a definition.
-OTHER = {"all-fit": "all_fit_lem", "all-printable": "all_printable_lem", "served-source": "source_served"}
+OTHER = {"all-fit": "all_fit_lem", "all-printable": "all_printable_lem", "report-answer": "report_answer_lem", "served-source": "source_served"}
 DECLARED = re.compile(r"\s*(?:(?:abbrev|opaque|unfoldable|pub|instance)\s+)*([^\s:(){},.=|λ]+)\s*(?:[({][^=]*?)?\s*:(?:\s|$)")
 WORD = re.compile(r"(?<![\w'\-])[A-Za-z_][\w'\-]*")
-# Files whose names the check makes.
+# Files of proofs/ whose names the check makes.
 MADE = ("Answers.antt", "Invariants.antt", "Proof.antt")
 
 
@@ -36,7 +36,7 @@ def snake(name):
 def declared():
     found = {}
     for path in files():
-        if path.endswith(".antt") and not path.endswith(MADE):
+        if path.endswith(".antt") and not ("/proofs/" in path and path.endswith(MADE)):
             with open(path, encoding="utf-8") as f:
                 for line in f:
                     m = DECLARED.match(re.sub(r"--.*", "", line))

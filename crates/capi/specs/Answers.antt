@@ -12,13 +12,13 @@ number_of (Ok _) = 0
 number_of (Err f) = (rule f.cause).number
 
 -- the number of the list's first fault
-abbrev pub listAnswer : List ℕ → ℕ
-listAnswer bs = number_of (verdict (first_fault bs))
+abbrev pub list_answer : List ℕ → ℕ
+list_answer bs = number_of (verdict (first_fault bs))
 
 -- a loop is on at any number but 0
-abbrev pub isOn : ℤ → Bool
-isOn on = int_lt on (pos 0) || int_lt (pos 0) on
+abbrev pub is_on : ℤ → Bool
+is_on on = int_lt on (pos 0) || int_lt (pos 0) on
 
 -- the level, and -4 for a code that no range has
 abbrev pub level_answer : ℤ → ℤ → ℤ → ℕ → ℕ → ℤ
-level_answer on t start code m = cond (is_code code) (pos (loop_level (isOn on) t start (degrees code) m)) (negsuc 3)
+level_answer on t start code m = cond (is_code code) (pos (loop_level (is_on on) t start (degrees code) m)) (negsuc 3)

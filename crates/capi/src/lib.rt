@@ -3,7 +3,7 @@
 #![tactic(auto)]
 
 ghost use Rattle.std.specs.Prelude.{◌≡◌, pos};
-ghost use Rattle.capi.specs.Answers.{listAnswer, isOn, level_answer};
+ghost use Rattle.capi.specs.Answers.{list_answer, is_on, level_answer};
 
 use control::{Range, level};
 use setup::check_list;
@@ -14,7 +14,7 @@ const NO_RANGE: i32 = -4;
 // 0 for a good set-up list, else the number of its first fault.
 #[unsafe(no_mangle)]
 pub extern "C" fn fanrack_check_list(list: &[u8]) -> i32
-    ensures { result ≡ pos (listAnswer list.now) }
+    ensures { result ≡ pos (list_answer list.now) }
 {
     match check_list(list) {
         Ok(()) => 0,
@@ -23,7 +23,7 @@ pub extern "C" fn fanrack_check_list(list: &[u8]) -> i32
 }
 
 fn is_on(on: i32) -> bool
-    ensures { result ≡ isOn on }
+    ensures { result ≡ is_on on }
 {
     on != 0
 }

@@ -6,7 +6,7 @@ use Rattle.double_settings.specs.declared.parts.Source.{Source}
 use Rattle.double_settings.proofs.Numbers.{numbered_some}
 use Rattle.fault.specs.declared.Cause.TheVariants.{NoSourceOrFan, ValueOutOfRange}
 use Rattle.fault.specs.declared.Fault.{Fault}
-use Rattle.unit.specs.Answers.{refused, reportAnswer}
+use Rattle.unit.specs.Answers.{refused, report_answer}
 use Rattle.unit.proofs.Served.{never}
 use Rattle.double.specs.Kinds.{double}
 use Rattle.double.specs.Sources.{highest, lowest, said, served_source, takes}
@@ -22,8 +22,8 @@ there n = numbered_some 0 sources n (omega arith)
 abbrev answer_by : Bool → ℤ → Option Source → Result (Unit {0}) Fault
 answer_by t v o = cond t (cond (le_z (said (pos 0) lowest o) v && le_z v (said (pos 0) highest o)) (Ok tt) (refused ValueOutOfRange)) (refused NoSourceOrFan)
 
-pub report_answer : (n : ℕ) (v : ℤ) → reportAnswer double n v ≡ bare (served_source v (source_at n))
-report_answer n v = ap (λ t. answer_by t v (source_at n)) (sym (there n)) ∙ by (source_at n)
+pub report_answer_lem : (n : ℕ) (v : ℤ) → report_answer double n v ≡ bare (served_source v (source_at n))
+report_answer_lem n v = ap (λ t. answer_by t v (source_at n)) (sym (there n)) ∙ by (source_at n)
   where
     judged : (x : Source) (t : Bool) → cond t (Ok tt) (refused ValueOutOfRange) ≡ bare (cond t (Ok x) (refused ValueOutOfRange))
     judged x true = refl

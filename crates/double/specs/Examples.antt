@@ -1,7 +1,7 @@
 -- Worked examples of a double unit, all together as one fact.
 use Rattle.std.specs.Prelude.{◌≡◌, ℕ, true, false, List, [], ◌∷◌, pos, Ok}
 use Rattle.fault.specs.declared.Cause.TheVariants.{RangeCode}
-use Rattle.unit.specs.Answers.{refused, writeAnswer}
+use Rattle.unit.specs.Answers.{refused, write_answer}
 use Rattle.unit.specs.Kind.{State, made}
 use Rattle.unit.specs.Levels.{level_of, pulls_line}
 use Rattle.unit.specs.Steps.{report_in, write_in}
@@ -43,5 +43,5 @@ pub record WorkedExamples : Type 0 where
   pub cleared : first_fan hold_ended ≡ 85
   pub tach_well : double.fails tach_limited 2 (pos 153) ≡ false
   pub tach_fails : double.fails tach_limited 2 (pos 154) ≡ true
-  pub code_taken : writeAnswer double 0x88 0x54 ≡ Ok tt
-  pub code_refused : writeAnswer double 0x88 0x55 ≡ refused RangeCode
+  pub code_taken : write_answer double 0x88 0x54 ≡ Ok tt
+  pub code_refused : write_answer double 0x88 0x55 ≡ refused RangeCode

@@ -3,6 +3,7 @@
 
 use setup::LONGEST;
 use std::io::Read;
+use std::process::ExitCode;
 use std::{env, io};
 use summary::summarize;
 
@@ -23,12 +24,12 @@ fn read_list(rt: &HostRuntime) -> io::Result<Vec<u8>> {
     Ok(list)
 }
 
-fn main(rt: HostRuntime) -> Result<(), Failed> {
-    if env::args(&rt)?.len() > 1 {
+fn tell(rt: &HostRuntime) -> Result<(), Failed> {
+    if env::args(rt)?.len() > 1 {
         eprintln!(rt; "usage: fanrack < LIST")?;
         return Err(Failed);
     }
-    let list = match read_list(&rt) {
+    let list = match read_list(rt) {
         Ok(list) => list,
         Err(error) => {
             eprintln!(rt; "fanrack: standard input: {error}")?;
@@ -44,5 +45,12 @@ fn main(rt: HostRuntime) -> Result<(), Failed> {
             println!(rt; "{fault}")?;
             Err(Failed)
         }
+    }
+}
+
+fn main(rt: HostRuntime) -> ExitCode {
+    match tell(&rt) {
+        Ok(()) => ExitCode::SUCCESS,
+        Err(Failed) => ExitCode::FAILURE,
     }
 }

@@ -4,7 +4,7 @@
 ghost use Rattle.std.specs.Prelude.{◌≡◌, T};
 ghost use Rattle.single.specs.Kinds.{single, is_temperature, reported_to};
 ghost use Rattle.single.specs.Meaning.{state_of, marked_by, shown_by};
-ghost use Rattle.unit.specs.Answers.{in_range, reportAnswer};
+ghost use Rattle.unit.specs.Answers.{in_range, report_answer};
 ghost use Rattle.single.specs.Settings.{settings_of};
 ghost use Rattle.unit.specs.Kind.{made};
 ghost use Rattle.unit.specs.Parts.{marks_of};
@@ -81,7 +81,7 @@ fn is_in_range(source: usize, value: i32) -> bool
 }
 
 fn check_report(source: usize, value: i32) -> Result<(), Fault>
-    ensures { result ≡ reportAnswer single source value }
+    ensures { result ≡ report_answer single source value }
 {
     if source >= 3 {
         return Err(Cause::NoSourceOrFan.unplaced());

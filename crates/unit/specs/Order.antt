@@ -1,6 +1,6 @@
 -- When a unit is at least as loaded as another, and what every kind shows of it.
 use Rattle.std.specs.Prelude.{◌≡◌, ℕ, ◌<◌, ◌≤◌, true, false, cond, ◌&&◌, T, ℤ, ◌≤ℤ◌, Ok, ◌==◌}
-use Rattle.unit.specs.Answers.{writeAnswer}
+use Rattle.unit.specs.Answers.{write_answer}
 use Rattle.unit.specs.Kind.{Kind, State, made}
 use Rattle.unit.specs.Levels.{stands_in, base_of}
 use Rattle.unit.specs.Steps.{report_in, write_in, reset_in}
@@ -45,7 +45,7 @@ pub record Steady (k : Kind) : Type 0 where
 -- b can be a setting at r: its write is served, and changes no bit of it
 pub record Again (k : Kind) (r b : ℕ) : Type 0 where
   pub byte : b < 256
-  pub served : writeAnswer k r b ≡ Ok tt
+  pub served : write_answer k r b ≡ Ok tt
   pub same : k.named r b ≡ b
 
 -- what else the meaning asks of every kind
@@ -58,7 +58,7 @@ pub record Faithful (k : Kind) : Type 0 where
   pub present : (r : ℕ) → T (k.setting r) → k.present r ≡ true
   pub settable : (r : ℕ) → T (k.setting r) → k.constant r ≡ false
   -- a served write changes that setting only, to the byte's named bits
-  pub stored : (s : k.Page) (r b q : ℕ) → writeAnswer k r b ≡ Ok tt → k.byte (k.store s r b) q ≡ cond (q == r && k.setting r) (k.named r b) (k.byte s q)
+  pub stored : (s : k.Page) (r b q : ℕ) → write_answer k r b ≡ Ok tt → k.byte (k.store s r b) q ≡ cond (q == r && k.setting r) (k.named r b) (k.byte s q)
   -- what is a setting at power-on, or by a served write, can be written again
   pub fresh : (p r : ℕ) → T (k.setting r) → Again k r (k.byte (k.power_on p) r)
-  pub written : (r b : ℕ) → b < 256 → T (k.setting r) → writeAnswer k r b ≡ Ok tt → Again k r (k.named r b)
+  pub written : (r b : ℕ) → b < 256 → T (k.setting r) → write_answer k r b ≡ Ok tt → Again k r (k.named r b)

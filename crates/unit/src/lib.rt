@@ -2,7 +2,7 @@
 #![tactic(auto)]
 
 ghost use Rattle.std.specs.Prelude.{◌≡◌};
-ghost use Rattle.unit.specs.Answers.{writeAnswer, readAnswer, reportAnswer};
+ghost use Rattle.unit.specs.Answers.{write_answer, read_answer, report_answer};
 ghost use Rattle.unit.specs.Kind.{Kind, State};
 ghost use Rattle.unit.specs.Levels.{stands_in, base_of};
 ghost use Rattle.unit.specs.Order.{Order, Faithful};
@@ -36,14 +36,14 @@ pub trait Unit {
         ensures { state self.new ≡ reset_in kind (state self.old) };
 
     fn write(&mut self, register: u8, byte: u8) -> Result<(), Fault>
-        ensures answer { result ≡ writeAnswer kind register byte }
+        ensures answer { result ≡ write_answer kind register byte }
         ensures after { state self.new ≡ after result (write_in kind (state self.old) register byte) (state self.old) };
 
     fn read(&self, register: u8) -> Result<u8, Fault>
-        ensures { result ≡ readAnswer kind (state self.now) register };
+        ensures { result ≡ read_answer kind (state self.now) register };
 
     fn report(&mut self, source: usize, value: i32) -> Result<(), Fault>
-        ensures answer { result ≡ reportAnswer kind source value }
+        ensures answer { result ≡ report_answer kind source value }
         ensures after { state self.new ≡ after result (report_in kind (state self.old) source value) (state self.old) };
 
     // Whether the cause of the source stands.
@@ -78,7 +78,7 @@ pub trait Unit {
 
     // What a write would answer: it depends on the kind alone.
     fn check_write(register: u8, byte: u8) -> Result<(), Fault>
-        ensures { result ≡ writeAnswer kind register byte };
+        ensures { result ≡ write_answer kind register byte };
 
     fn is_setting(register: u8) -> bool
         ensures { result ≡ kind.setting register };

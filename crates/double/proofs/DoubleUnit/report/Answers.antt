@@ -9,7 +9,7 @@ use Rattle.double.specs.Kinds.{double}
 use Rattle.double.specs.Meaning.{marked_by, state_of}
 use Rattle.double.specs.Own.{reported_by}
 use Rattle.double.specs.Sources.{said, served_source}
-use Rattle.double.proofs.Reported.{bare, report_answer, served_is, there}
+use Rattle.double.proofs.Reported.{bare, report_answer_lem, served_is, there}
 use Rattle.double.proofs.DoubleUnit.report.Goals as goal
 
 pub returns-in_err-served : goal.returns-in_err-served
@@ -18,9 +18,9 @@ returns-in_err-served c =
     let v = c.args.value in
     let e = c.in_err-served.field-0.0 in
     let failed : served_source v (source_at n) ≡ Err e = search rules in
-    let out : c.from-residual.result ≡ Err e = search rules in
+    let out : c.from_residual.result ≡ Err e = search rules in
     record {
-      answer = out ∙ sym (report_answer n v ∙ ap bare failed);
+      answer = out ∙ sym (report_answer_lem n v ∙ ap bare failed);
       after = sym (ap (λ r. after r (report_in double (state_of c.args.self.now) n v) (state_of c.args.self.now)) out);
     }
 
@@ -39,7 +39,7 @@ returns c =
     let marks : marks_of is.marks ≡ marked_by was n x v = search rules in
     let own : is.own ≡ reported_by s was.own v x = search rules in
     record {
-      answer = sym (report_answer n v ∙ ap bare served);
+      answer = sym (report_answer_lem n v ∙ ap bare served);
       after = λ i. record {
         strap = c.note.ensures.kept.0 i;
         page = ap settings_of c.note.ensures.kept.1 i;
