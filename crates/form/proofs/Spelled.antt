@@ -1,6 +1,6 @@
 -- A line is understood exactly as it is spelled.
 use Rattle.std.proofs.Common.{◌≡◌, ℕ, ◌+◌, ◌*◌, ◌/◌, ◌%◌, ◌<◌, ◌≤◌, true, ◌&&◌, eqb, leb, List, [], ◌∷◌, ◌++◌, map, length, get_or, drop, Some, refl, ap, ◌∙◌, subst, arith, length-drop}
-use Rattle.std.specs.List.{range_with_len, AllByRecursion as All}
+use Rattle.std.specs.List.{range_with_len, AllByRecursion}
 use Rattle.std.proofs.lemmas.List.FromFn.{fill_by_all}
 use Rattle.std.proofs.lemmas.Bool.{and_parts, eqb-true, leb-true}
 use Rattle.std.proofs.lemmas.Bool.Decides.{nat_tests}
@@ -43,14 +43,14 @@ byte_is high low n e =
 spread : (n : ℕ) (t : List ℕ) → length t ≡ n → t ≡ map (λ i. get_or t i 0) (range_with_len 0 n)
 spread n t e = fill_by_all (λ i. get_or t i 0) t n 0 e (λ k h. refl)
 
-all_printable_lem : (t : List ℕ) → all_printable t ≡ true → All (λ b. (32 ≤ b) × (b ≤ 126)) t
+all_printable_lem : (t : List ℕ) → all_printable t ≡ true → AllByRecursion (λ b. (32 ≤ b) × (b ≤ 126)) t
 all_printable_lem [] e = tt
 all_printable_lem (b ∷ t) e =
     let p = and_parts (printable b) (all_printable t) e in
     let here = p.0 in
     (grind (arith, nat_tests), all_printable_lem t p.1)
 
-printable_all : (t : List ℕ) → All (λ b. (32 ≤ b) × (b ≤ 126)) t → all_printable t ≡ true
+printable_all : (t : List ℕ) → AllByRecursion (λ b. (32 ≤ b) × (b ≤ 126)) t → all_printable t ≡ true
 printable_all [] h = refl
 printable_all (b ∷ t) h =
     let low = h.0.0 in
@@ -58,7 +58,7 @@ printable_all (b ∷ t) h =
     let here : printable b ≡ true = grind (arith, nat_tests) in
     rw here (printable_all t h.1)
 
-spaced_is : (t : List ℕ) (n : ℕ) (is : List ℕ) → spaced t n is ≡ true → (length t ≡ n) × All (λ i. get_or t i 0 ≡ 32) is
+spaced_is : (t : List ℕ) (n : ℕ) (is : List ℕ) → spaced t n is ≡ true → (length t ≡ n) × AllByRecursion (λ i. get_or t i 0 ≡ 32) is
 spaced_is t n [] e = (eqb-true (length t) n e, tt)
 spaced_is t n (i ∷ is) e =
     let p = and_parts (eqb (get_or t i 0) 32) (spaced t n is) e in

@@ -1,6 +1,6 @@
 -- How what a line says is spelled: a line is understood exactly when it is the spelling of something.
 use Rattle.std.specs.Prelude.{◌≡◌, ℕ, ◌+◌, ◌/◌, ◌%◌, ◌<◌, ◌≤◌, cond, List, [], ◌∷◌, ◌++◌, length, Some, Option, nat_lt}
-use Rattle.std.specs.List.{AllByRecursion as All}
+use Rattle.std.specs.List.{AllByRecursion}
 use Rattle.form.specs.Forms.{Said, write, fans, remark, trailer}
 
 -- a hexadecimal digit, in upper case
@@ -21,7 +21,7 @@ spelled (trailer count) = 116 ∷ 32 ∷ hex_of_byte (count / 256) ++ hex_of_byt
 abbrev pub Sayable : Said → Type 0
 Sayable (write unit register byte) = (unit < 256) × (register < 256) × (byte < 256)
 Sayable (fans unit count) = (unit < 256) × (count < 10)
-Sayable (remark text) = (length text ≤ 60) × All (λ b. (32 ≤ b) × (b ≤ 126)) text
+Sayable (remark text) = (length text ≤ 60) × AllByRecursion (λ b. (32 ≤ b) × (b ≤ 126)) text
 Sayable (trailer count) = count < 65536
 
 pub record Spells (text : List ℕ) (said : Said) : Type 0 where

@@ -1,6 +1,6 @@
 -- The lines of a list are cut as they should be.
 use Rattle.std.proofs.Common.{◌≡◌, ℕ, suc, ◌+◌, ◌<◌, ◌≤◌, Bool, true, false, cond, eqb, ◌⊎◌, List, [], ◌∷◌, ◌++◌, length, take, drop, sym, refl, ap, ◌∙◌, subst, inl, inr, ⊎_elim, append_assoc, append-nil, arith, length-append, length-drop}
-use Rattle.std.specs.List.{AllByRecursion as All}
+use Rattle.std.specs.List.{AllByRecursion}
 use Rattle.std.proofs.lemmas.List.{take_at, drop_at, drop-append-le, take-append-le, same_from_push}
 use Rattle.std.proofs.lemmas.Bool.{eqb-true, eqb-false, ne_eqb, cases_eq}
 use Rattle.fault.specs.declared.Place.{Place}
@@ -48,13 +48,13 @@ rejoined_ended bs not-open =
     (cases_eq some.1 10))
     (last_byte bs)
 
-single_from : (t : Bool) (b : ℕ) (ls : List (List ℕ)) → (t ≡ false → b ≡ 10 → ⊥) → All (All (λ c. c ≡ 10 → ⊥)) ls → All (All (λ c. c ≡ 10 → ⊥)) (cond t ([] ∷ ls) (onto b ls))
+single_from : (t : Bool) (b : ℕ) (ls : List (List ℕ)) → (t ≡ false → b ≡ 10 → ⊥) → AllByRecursion (AllByRecursion (λ c. c ≡ 10 → ⊥)) ls → AllByRecursion (AllByRecursion (λ c. c ≡ 10 → ⊥)) (cond t ([] ∷ ls) (onto b ls))
 single_from true b ls other h = (tt, h)
 single_from false b [] other h = ((other refl, tt), tt)
 single_from false b (l ∷ ls) other h = ((other refl, h.0), h.1)
 
 -- no line has a newline in it
-pub single_lines : (bs : List ℕ) → All (All (λ c. c ≡ 10 → ⊥)) (lines bs)
+pub single_lines : (bs : List ℕ) → AllByRecursion (AllByRecursion (λ c. c ≡ 10 → ⊥)) (lines bs)
 single_lines [] = tt
 single_lines (b ∷ bs) = single_from (eqb b 10) b (lines bs) (eqb-false b 10) (single_lines bs)
 
@@ -71,7 +71,7 @@ texts_laid : (p : Place) (ls : List (List ℕ)) → texts (lay_out p ls) ≡ ls
 texts_laid p [] = refl
 texts_laid p (l ∷ ls) = ap (λ ts. l ∷ ts) (texts_laid (past p l) ls)
 
-single_laid : (p : Place) (ls : List (List ℕ)) → All (All (λ c. c ≡ 10 → ⊥)) ls → All (λ t. All (λ c. c ≡ 10 → ⊥) t.text) (lay_out p ls)
+single_laid : (p : Place) (ls : List (List ℕ)) → AllByRecursion (AllByRecursion (λ c. c ≡ 10 → ⊥)) ls → AllByRecursion (λ t. AllByRecursion (λ c. c ≡ 10 → ⊥) t.text) (lay_out p ls)
 single_laid p [] h = tt
 single_laid p (l ∷ ls) h = (h.0, single_laid (past p l) ls h.1)
 

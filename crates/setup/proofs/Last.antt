@@ -1,6 +1,6 @@
 -- The last line of a list, and where it stands.
 use Rattle.std.proofs.Common.{◌≡◌, ℕ, ◌+◌, ◌-◌, ◌<◌, ◌≤◌, Bool, true, false, cond, eqb, ◌⊎◌, List, [], ◌∷◌, ◌++◌, length, get_or, take, drop, Some, None, Option, sym, refl, ap, ◌∙◌, subst, ⊎_elim, append_assoc, arith, length-append, length-drop, take-append-drop}
-use Rattle.std.specs.List.{last_or, AllByRecursion as All}
+use Rattle.std.specs.List.{last_or, AllByRecursion}
 use Rattle.std.proofs.ByRecursion.{All-from_get_or}
 use Rattle.std.proofs.lemmas.List.{length-take, length-take-le, get_or-take, get_or-drop, drop-drop, drop_more, drop_all, take_all, take_more}
 use Rattle.std.proofs.lemmas.Bool.{ne_eqb, cases_lt}
@@ -14,7 +14,7 @@ use Rattle.setup.proofs.Cuts.{rejoined_back, some_lines}
 use Rattle.setup.proofs.Lined.{length-laid}
 
 abbrev pub NoNewline : List ℕ → Type 0
-NoNewline l = All (λ b. b ≡ 10 → ⊥) l
+NoNewline l = AllByRecursion (λ b. b ≡ 10 → ⊥) l
 
 -- a line is what stands before the first newline
 pub line_first : (l bs : List ℕ) → NoNewline l → lines (l ++ 10 ∷ bs) ≡ l ∷ lines bs

@@ -1,6 +1,6 @@
 -- A list is found good exactly when it is well made.
 use Rattle.std.proofs.Common.{◌≡◌, ℕ, ◌+◌, ◌/◌, ◌%◌, ◌<◌, ◌≤◌, Bool, true, false, cond, not, ◌&&◌, eqb, ltb, ◌⊎◌, List, [], ◌∷◌, ◌++◌, map, length, is_some, is_ok, Some, None, Ok, Err, Decides, Option, Result, sym, refl, ap, ◌∙◌, inl, inr, ⊎_elim, append_assoc, append-nil, zero-add, arith, lit<, length-append}
-use Rattle.std.specs.List.{last_or, AllByRecursion as All}
+use Rattle.std.specs.List.{last_or, AllByRecursion}
 use Rattle.std.specs.Option.{option_or}
 use Rattle.std.proofs.ByRecursion.{All-weaker}
 use Rattle.std.proofs.lemmas.List.{append_cancel_right}
@@ -45,14 +45,14 @@ rejoined_more : (ss : List Said) (l : List ℕ) → rejoined (map spelled ss ++ 
 rejoined_more [] l = append-nil (l ++ 10 ∷ [])
 rejoined_more (s ∷ ss) l = ap (λ bs. (spelled s ++ 10 ∷ []) ++ bs) (rejoined_more ss l) ∙ sym (append_assoc (spelled s ++ 10 ∷ []) (written ss) (l ++ 10 ∷ []))
 
-lines_written : (ss : List Said) (bs : List ℕ) → All Plain ss → lines (written ss ++ bs) ≡ map spelled ss ++ lines bs
+lines_written : (ss : List Said) (bs : List ℕ) → AllByRecursion Plain ss → lines (written ss ++ bs) ≡ map spelled ss ++ lines bs
 lines_written [] bs h = refl
 lines_written (s ∷ ss) bs h =
     ap lines (append_assoc (spelled s ++ 10 ∷ []) (written ss) bs ∙ append_assoc (spelled s) (10 ∷ []) (written ss ++ bs))
     ∙ line_first (spelled s) (written ss ++ bs) (spelled_plain s h.0.0)
     ∙ ap (λ ls. spelled s ∷ ls) (lines_written ss bs h.1)
 
-good_lines : (p : Place) (ss : List Said) (n : ℕ) → All Plain ss → n < 65536 → first_in (entries (lay_out p (map spelled ss ++ spelled (trailer n) ∷ []))) ≡ None
+good_lines : (p : Place) (ss : List Said) (n : ℕ) → AllByRecursion Plain ss → n < 65536 → first_in (entries (lay_out p (map spelled ss ++ spelled (trailer n) ∷ []))) ≡ None
 good_lines p [] n h few = let back = spelled_back (trailer n) few in rw back
 good_lines p (s ∷ ss) n h few =
     let back = spelled_back s h.0.0 in
@@ -125,7 +125,7 @@ not_trailer None e = refl
 not_trailer (Some n) e = absurd (true≢false e)
 
 -- lines without a fault spell something, and end with the trailer
-spell : (p : Place) (l : List ℕ) (ls : List (List ℕ)) (o : Option TextAt) (t : TextAt) (n : ℕ) → first_in (entries (lay_out p (l ∷ ls))) ≡ None → last_or o (lay_out p (l ∷ ls)) ≡ Some t → given (form_of t.text) trailer_count ≡ Some n → (ss : List Said) × All Plain ss × (l ∷ ls ≡ map spelled ss ++ spelled (trailer n) ∷ [])
+spell : (p : Place) (l : List ℕ) (ls : List (List ℕ)) (o : Option TextAt) (t : TextAt) (n : ℕ) → first_in (entries (lay_out p (l ∷ ls))) ≡ None → last_or o (lay_out p (l ∷ ls)) ≡ Some t → given (form_of t.text) trailer_count ≡ Some n → (ss : List Said) × AllByRecursion Plain ss × (l ∷ ls ≡ map spelled ss ++ spelled (trailer n) ∷ [])
 spell p l [] o t n e last count =
     let one = entry_none p true (form_of l) [] e in
     let same : l ≡ t.text = cc in

@@ -1,6 +1,6 @@
 -- How the lines stand in their list, whatever the list holds.
 use Rattle.std.specs.Prelude.{◌≡◌, ℕ, ◌+◌, List, [], ◌∷◌, ◌++◌, map, length, take, drop, ◌≢◌}
-use Rattle.std.specs.List.{flat_map, AllByRecursion as All}
+use Rattle.std.specs.List.{flat_map, AllByRecursion}
 use Rattle.setup.specs.Lines.{TextAt, laid}
 
 -- the last line lacks its newline: the list has a last byte, and that is no newline
@@ -24,6 +24,6 @@ pub record Stands (bs : List ℕ) (before : List TextAt) (t : TextAt) : Type 0 w
 pub record Cut (bs : List ℕ) (ts : List TextAt) : Type 0 where
   pub unended : Unended bs → rejoined (texts ts) ≡ bs ++ 10 ∷ []
   pub ended : (Unended bs → ⊥) → rejoined (texts ts) ≡ bs
-  pub single : All (λ t. All (λ b. b ≢ 10) t.text) ts
+  pub single : AllByRecursion (λ t. AllByRecursion (λ b. b ≢ 10) t.text) ts
   pub stands : (before after : List TextAt) (t : TextAt) → ts ≡ before ++ t ∷ after → Stands bs before t
   pub newline : Unended bs → laid (bs ++ 10 ∷ []) ≡ ts

@@ -1,6 +1,6 @@
 -- What a well-made list is: lines that say something, and then a trailer that counts their bytes.
 use Rattle.std.specs.Prelude.{◌≡◌, ℕ, ◌≤◌, ◌⊎◌, List, [], ◌∷◌, ◌++◌, length, None}
-use Rattle.std.specs.List.{flat_map, AllByRecursion as All}
+use Rattle.std.specs.List.{flat_map, AllByRecursion}
 use Rattle.form.specs.Forms.{Said, trailer, trailer_count}
 use Rattle.form.specs.Spelling.{spelled, Sayable}
 
@@ -14,7 +14,7 @@ written ss = flat_map (λ s. spelled s ++ 10 ∷ []) ss
 
 pub record WellMade (bs : List ℕ) : Type 0 where
   pub said : List Said
-  pub plain : All Plain said
+  pub plain : AllByRecursion Plain said
   pub end : List ℕ
   pub ended : (end ≡ []) ⊎ (end ≡ 10 ∷ [])
   pub whole : bs ≡ written said ++ (spelled (trailer (length (written said))) ++ end)

@@ -8,7 +8,7 @@ use Rattle.control.proofs.Rising.{level_rises, on_survives}
 use Rattle.fault.specs.declared.Cause.TheVariants.{NoRegister, ReadOnly, RangeCode}
 use Rattle.fault.specs.declared.Fault.{Fault}
 use Rattle.std.specs.Option.{option_map, unwrap_or}
-use Rattle.std.specs.List.{AllByRecursion as All}
+use Rattle.std.specs.List.{AllByRecursion}
 use Rattle.quantity.proofs.Masks.{mask_again}
 use Rattle.std.proofs.lemmas.Bool.{true≢false, cond-true}
 use Rattle.unit.specs.Answers.{refused}
@@ -123,7 +123,7 @@ either_row : (t : Bool) (o p : Option Row) → (T (is_setting (option_map (λ x.
 either_row true o p f g h = f h
 either_row false o p f g h = g h
 
-looked_up : (xs : List Row) (r : ℕ) → All (λ x. T (is_setting (Some x.is)) → Startable (Some x)) xs → T (is_setting (option_map (λ x. x.is) (look xs r))) → Startable (look xs r)
+looked_up : (xs : List Row) (r : ℕ) → AllByRecursion (λ x. T (is_setting (Some x.is)) → Startable (Some x)) xs → T (is_setting (option_map (λ x. x.is) (look xs r))) → Startable (look xs r)
 looked_up [] r all h = absurd h
 looked_up (x ∷ xs) r all h = either_row (r == x.register) (Some x) (look xs r) all.0 (looked_up xs r all.1) h
 
