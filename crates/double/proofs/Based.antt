@@ -2,12 +2,11 @@
 use Rattle.std.proofs.Common.{◌≡◌, ℕ, ◌≤◌, max, Bool, true, false, cond, ◌&&◌, T, sym, refl, ap, ◌∙◌, subst, ⊎_elim, arith}
 use Rattle.std.proofs.lemmas.Bool.{and_right, cases_lt, cond-false, cond-true, or_from, or_left, or_right}
 use Rattle.double_settings.specs.Registers.{is_automatic}
-use Rattle.double_settings.specs.Settings.{alarm_level, drives, minimum, monitoring}
+use Rattle.double_settings.specs.Settings.{drives, minimum, monitoring}
 use Rattle.double_settings.specs.declared.parts.Channel.{Channel}
 use Rattle.double_settings.specs.declared.parts.Channel.TheVariants.{Local, Remote1, Remote2}
 use Rattle.double_settings.specs.declared.parts.Fan.{Fan}
 use Rattle.registers.proofs.Laws.{is_true}
-use Rattle.unit.specs.Levels.{Greatest}
 use Rattle.double.specs.declared.own.Own.{Own}
 use Rattle.double.specs.Own.{loop_of}
 use Rattle.double.specs.Base.{Asked, IsBase, base_by, driven_level, is_driven, level_from, loops_level}

@@ -1,5 +1,5 @@
 -- The double unit as a kind.
-use Rattle.std.specs.Prelude.{ℕ, ◌+◌, false, List, [], ◌∷◌, ℤ, pos, is_some, bit_or, int_lt}
+use Rattle.std.specs.Prelude.{ℕ, ◌+◌, false, List, [], ◌∷◌, pos, is_some, bit_or, int_lt}
 use Rattle.double_settings.specs.Parts.{channel_index, fans, numbered}
 use Rattle.double_settings.specs.Registers.{power_on_byte, role_at}
 use Rattle.double_settings.specs.Settings.{answer_of, asserts_by, demand_by, forces_line, holds, interrupt_by, limit_of, pin_by, pulls_by}

@@ -24,7 +24,7 @@ use Rattle.unit.proofs.Limits.{above_more}
 use Rattle.double.specs.declared.own.Own.{Own}
 use Rattle.double.specs.Base.{base_by, driven_level, is_driven, loops_level}
 use Rattle.double.specs.Kinds.{double}
-use Rattle.double.specs.Own.{HotterOwn, fresh, loop_of, reported_by, with_loop, with_tach}
+use Rattle.double.specs.Own.{HotterOwn, fresh, reported_by, with_loop, with_tach}
 use Rattle.double.specs.Sources.{is_temperature, said}
 
 -- the order of own states: a tachometer has no part in it, and a loop only its own

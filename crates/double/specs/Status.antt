@@ -1,6 +1,6 @@
 -- The byte of 10h and 11h: the marks of a fan's four sources.
 use Rattle.std.specs.Prelude.{◌≡◌, ℕ, ◌+◌, ◌*◌, Bool, cond}
-use Rattle.double_settings.specs.Parts.{fan_index, kind_index}
+use Rattle.double_settings.specs.Parts.{fan_index}
 use Rattle.double_settings.specs.declared.parts.Fan.{Fan}
 use Rattle.double_settings.specs.declared.parts.FanSource.{FanSource}
 use Rattle.double_settings.specs.declared.parts.FanSource.TheVariants.{Missing, Fault, Tach, HotPlug}

@@ -1,10 +1,9 @@
 -- The settings of a double unit, by register, and what they say.
-use Rattle.std.specs.Prelude.{ℕ, ◌+◌, ◌/◌, ◌%◌, max, Bool, true, false, cond, not, ◌&&◌, ◌||◌, ℤ, pos}
+use Rattle.std.specs.Prelude.{ℕ, ◌+◌, ◌/◌, ◌%◌, max, Bool, true, cond, not, ◌&&◌, ◌||◌, ℤ, pos}
 use Rattle.quantity.specs.Quantities.{bit, low_level, high_level, signed}
 use Rattle.registers.specs.Settings.{settings_in}
 use Rattle.double_settings.specs.declared.parts.Channel.{Channel}
 use Rattle.double_settings.specs.declared.parts.Fan.{Fan}
-use Rattle.double_settings.specs.declared.parts.FanSource.{FanSource}
 use Rattle.double_settings.specs.declared.parts.FanSource.TheVariants.{Missing, Fault, Tach, HotPlug}
 use Rattle.double_settings.specs.declared.parts.Source.{Source}
 use Rattle.double_settings.specs.declared.parts.Source.TheVariants.{OfFan, Temperature}

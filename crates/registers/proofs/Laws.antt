@@ -14,7 +14,7 @@ use Rattle.registers.specs.declared.Role.{Role}
 use Rattle.registers.specs.declared.Role.TheVariants.{Setting, Code, Status, Reading}
 use Rattle.registers.specs.Roles.{is_reading, is_setting, is_code, is_bad_code, named_bits, answer_to, stored_as}
 use Rattle.registers.specs.Tables.{Row, look, role_of, start_of, fits, all_fit, is_apart, all_apart}
-use Rattle.registers.specs.Settings.{has_code, kept, kept_as}
+use Rattle.registers.specs.Settings.{has_code, kept_as}
 
 pub setting_present : (o : Option Role) → T (is_setting o) → is_some o ≡ true
 setting_present None h = absurd h

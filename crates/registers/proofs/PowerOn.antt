@@ -1,5 +1,5 @@
 -- A table's bytes at power-on, against bytes that are put at their registers: one computed test tells that they agree.
-use Rattle.std.proofs.Common.{◌≡◌, ℕ, zero, suc, ◌<◌, ◌≤◌, Bool, true, false, cond, ◌&&◌, T, eqb, ltb, leb, List, [], ◌∷◌, Some, None, sym, refl, ap, ◌∙◌, ⊎_elim, arith}
+use Rattle.std.proofs.Common.{◌≡◌, ℕ, zero, suc, ◌<◌, ◌≤◌, Bool, true, false, cond, ◌&&◌, T, eqb, ltb, leb, List, [], ◌∷◌, Some, sym, refl, ap, ◌∙◌, ⊎_elim, arith}
 use Rattle.std.proofs.lemmas.Bool.{and_right, cases_lt, cond-false, eqb-true, lt-leb, ltb-true, ne_eqb}
 use Rattle.unit.specs.Steps.{put}
 use Rattle.registers.specs.Settings.{filled, is_misfit, kept}

@@ -1,6 +1,6 @@
-use Rattle.std.proofs.Common.{◌≡◌, ap, ◌∙◌}
+use Rattle.std.proofs.Common.{◌∙◌}
 use Rattle.std.proofs.lemmas.List.{length-replicate}
-use Rattle.registers.specs.Settings.{code_in, overlaid}
+use Rattle.registers.specs.Settings.{overlaid}
 use Rattle.registers.proofs.Kept.{codes_none, zero_none}
 use Rattle.registers.proofs.store.Store.zero.Goals as goal
 
