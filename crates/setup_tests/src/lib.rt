@@ -215,7 +215,7 @@ mod tests {
             return Err(Fail::new("no remark"));
         };
         assert_eq!(rt; place, Place { line: 1, offset: 0 });
-        assert_eq!(rt; text, b"hello");
+        assert_eq!(rt; text, b"hello".as_slice());
         let Some(
             Ok(
                 Entry {
