@@ -82,6 +82,7 @@ impl<const N: usize, const FIRST: u8> Store<N, FIRST> {
             self.set_range(usize::from(register - FIRST), range);
         }
     }
+
     // A write to a register with this role, or to none.
     pub fn write(&mut self, role: Option<Role>, register: u8, byte: u8) -> Result<(), Fault>
         ensures answer { result ≡ answer_to role byte }
