@@ -5,10 +5,10 @@
 ghost use Rattle.std.specs.Prelude.{◌≡◌, pos};
 ghost use Rattle.capi.specs.Answers.{list_answer, is_on, level_answer};
 
-use control::{Range, level};
+use control::{Loop, Ramp, Range};
 use setup::check_list;
 
-// What `fanrack_loop_level` answers for a code that no range has.
+// What `fanrack_loop_level` answers for a code that no range has: a number, since C is handed no other refusal.
 const NO_RANGE: i32 = -4;
 
 // 0 for a good set-up list, else the number of its first fault.
@@ -33,8 +33,17 @@ fn is_on(on: i32) -> bool
 pub extern "C" fn fanrack_loop_level(on: i32, t: i8, t_min: i8, code: u8, m: u8) -> i32
     ensures { result ≡ level_answer on t t_min code m }
 {
-    match Range::of_code(code) {
-        Some(range) => i32::from(level(is_on(on), t, t_min, range, m)),
-        None => NO_RANGE,
-    }
+    let Ok(range) = Range::try_from(code) else {
+        return NO_RANGE;
+    };
+    let state = Loop {
+        on: is_on(on),
+        reading: t,
+    };
+    let ramp = Ramp {
+        start: t_min,
+        range,
+        minimum: m,
+    };
+    i32::from(state.level(ramp))
 }

@@ -4,7 +4,13 @@ ghost use Rattle.control.specs.Examples.{WorkedExamples};
 ghost use Rattle.control.specs.Loop.{loop_level};
 ghost use Rattle.control.specs.Range.{degrees, is_code};
 
-use crate::{Range, level, turned};
+use crate::{Loop, Ramp, Range, Thermostat};
+
+// The start and the hysteresis of most examples.
+const AT_TWENTY: Thermostat = Thermostat {
+    start: 20,
+    hysteresis: 5,
+};
 
 // Whether the code gives what the examples say, as the definitions do.
 pub fn worked_examples() -> bool
@@ -14,6 +20,7 @@ pub fn worked_examples() -> bool
     levels() && turns()
 }
 
+#[tactic(auto, unfolding(crate::specs::Loop::ramp_level))]
 fn levels() -> bool
     ensures ran { result ≡ true }
     ensures theorem { WorkedExamples }
@@ -22,22 +29,26 @@ fn levels() -> bool
         && gives(true, 60, 20, 3, 255)
         && gives(true, 59, 20, 3, 250)
         && gives(true, 15, 20, 3, 85)
-        && gives(turned(false, 21, 20, 5), 21, 20, 3, 89)
+        && gives(AT_TWENTY.turned(false, 21), 21, 20, 3, 89)
         && gives(true, -9, -10, 0, 119)
 }
 
 fn turns() -> bool
     ensures { result ≡ true }
 {
-    !turned(false, 20, 20, 5) && turned(false, 21, 20, 5) && !turned(true, 14, 20, 5)
+    !AT_TWENTY.turned(false, 20) && AT_TWENTY.turned(false, 21) && !AT_TWENTY.turned(true, 14)
 }
 
-// Whether a loop with minimum 85 and the range of this code is at the level `expected`.
+// Whether a loop with minimum 85 and the range of this code is at the level `expected`. The parameters are the columns of the examples.
 fn gives(on: bool, reading: i8, start: i8, code: u8, expected: u8) -> bool
     ensures { result ≡ (is_code code && loop_level on reading start (degrees code) 85 == expected) }
 {
-    match Range::of_code(code) {
-        Some(range) => level(on, reading, start, range, 85) == expected,
-        None => false,
-    }
+    Range::try_from(code).is_ok_and(|range| {
+        let ramp = Ramp {
+            start,
+            range,
+            minimum: 85,
+        };
+        Loop { on, reading }.level(ramp) == expected
+    })
 }

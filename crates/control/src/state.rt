@@ -1,12 +1,13 @@
 // A control loop at a moment.
 ghost use Rattle.std.specs.Prelude.{◌≡◌};
+ghost use Rattle.control.specs.Laws.{LevelBounded, LevelRises};
 ghost use Rattle.control.specs.Range.{degrees};
 ghost use Rattle.control.specs.State.{heard, level_in, off};
 
-use crate::{Range, level, turned};
+use crate::{Ramp, Thermostat};
 
-// Whether it is on, and its last reading.
-#[derive(Clone, Copy)]
+// Whether it is on, and its last reading, which it has while it is off too.
+#[derive(Clone, Copy, PartialEq, Eq, Debug)]
 pub struct Loop {
     pub on: bool,
     pub reading: i8,
@@ -24,19 +25,22 @@ impl Loop {
     }
 
     // After a report of `reading`.
-    pub fn reported(self, reading: i8, start: i8, hysteresis: u8) -> Loop
-        ensures { result ≡ heard self reading start hysteresis }
+    pub fn reported(self, reading: i8, thermostat: Thermostat) -> Loop
+        ensures { result ≡ heard self reading thermostat.start thermostat.hysteresis }
     {
         Loop {
-            on: turned(self.on, reading, start, hysteresis),
+            on: thermostat.turned(self.on, reading),
             reading,
         }
     }
 
-    // The level that it asks of a fan with this minimum level.
-    pub fn level(self, start: i8, range: Range, minimum: u8) -> u8
-        ensures { result ≡ level_in self start (degrees range.code) minimum }
+    // The level that it asks for: by the ramp, and 0 while it is off.
+    #[tactic(auto, using(crate::proofs::Rising::level_bounded, crate::proofs::Rising::level_rises))]
+    pub fn level(self, ramp: Ramp) -> u8
+        ensures is { result ≡ level_in self ramp.start (degrees ramp.range.code) ramp.minimum }
+        ensures rises { LevelRises ramp.start (degrees ramp.range.code) ramp.minimum }
+        ensures bounded { LevelBounded ramp.start (degrees ramp.range.code) ramp.minimum }
     {
-        level(self.on, self.reading, start, range, minimum)
+        if self.on { ramp.level(self.reading) } else { 0 }
     }
 }

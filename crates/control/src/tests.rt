@@ -1,19 +1,26 @@
 // A control loop at its boundaries: every range code, both sides of the hysteresis, the extreme readings and minimums.
-use crate::{Range, level, turned};
+use crate::{Loop, Ramp, Range, Thermostat};
 
 fn width_of(code: u8) -> Option<u8> {
-    match Range::of_code(code) {
-        Some(range) if range.code() == code => Some(range.width()),
+    match Range::try_from(code) {
+        Ok(range) if u8::from(range) == code => Some(range.width()),
         _ => None,
     }
 }
 
+fn turns(on: bool, reading: i8, start: i8, hysteresis: u8) -> bool {
+    Thermostat { start, hysteresis }.turned(on, reading)
+}
+
 // The level of a loop that is on, with the range of this code.
 fn level_at(reading: i8, start: i8, code: u8, minimum: u8) -> Option<u8> {
-    match Range::of_code(code) {
-        Some(range) => Some(level(true, reading, start, range, minimum)),
-        None => None,
-    }
+    let range = Range::try_from(code).ok()?;
+    let ramp = Ramp {
+        start,
+        range,
+        minimum,
+    };
+    Some(Loop { on: true, reading }.level(ramp))
 }
 
 #[test]
@@ -43,24 +50,24 @@ fn full_at_the_end_of_each_range(rt: HostRuntime) {
 
 #[test]
 fn hysteresis(rt: HostRuntime) {
-    assert!(rt; turned(false, 21, 20, 5));
-    assert!(rt; turned(true, 20, 20, 5));
-    assert!(rt; turned(true, 15, 20, 5));
-    assert!(rt; !turned(true, 14, 20, 5));
-    assert!(rt; !turned(false, 15, 20, 5));
-    assert!(rt; !turned(false, 20, 20, 5));
-    assert!(rt; turned(true, 20, 20, 0));
-    assert!(rt; !turned(true, 19, 20, 0));
+    assert!(rt; turns(false, 21, 20, 5));
+    assert!(rt; turns(true, 20, 20, 5));
+    assert!(rt; turns(true, 15, 20, 5));
+    assert!(rt; !turns(true, 14, 20, 5));
+    assert!(rt; !turns(false, 15, 20, 5));
+    assert!(rt; !turns(false, 20, 20, 5));
+    assert!(rt; turns(true, 20, 20, 0));
+    assert!(rt; !turns(true, 19, 20, 0));
 }
 
 #[test]
 fn extreme_readings(rt: HostRuntime) {
-    assert!(rt; turned(false, 127, -128, 15));
-    assert!(rt; turned(true, -128, -128, 15));
-    assert!(rt; turned(true, -128, -128, 0));
-    assert!(rt; !turned(true, -128, 127, 15));
-    assert!(rt; turned(true, 112, 127, 15));
-    assert!(rt; !turned(true, 111, 127, 15));
+    assert!(rt; turns(false, 127, -128, 15));
+    assert!(rt; turns(true, -128, -128, 15));
+    assert!(rt; turns(true, -128, -128, 0));
+    assert!(rt; !turns(true, -128, 127, 15));
+    assert!(rt; turns(true, 112, 127, 15));
+    assert!(rt; !turns(true, 111, 127, 15));
     assert_eq!(rt; level_at(127, -128, 4, 0), Some(255));
     assert_eq!(rt; level_at(-128, 127, 4, 7), Some(7));
     assert_eq!(rt; level_at(127, 120, 1, 0), Some(178));

@@ -48,16 +48,16 @@ tells b x e = ap (λ y. eqb y 1) e ∙ same b
     same true = refl
     same false = refl
 
-pub all_shown : (m f t h : Mark) → AllShown (status_byte m f t h) m f t h
-all_shown m f t h =
-    let is : status_byte m f t h ≡ binary (digit m.failing) (digit m.held) (digit f.held) (digit f.failing) (digit t.failing) (digit h.failing) (digit t.held) (digit h.held) =
-    omega (arith, weighs m.failing 1, weighs m.held 2, weighs f.held 4, weighs f.failing 8, weighs t.failing 16, weighs h.failing 32, weighs t.held 64, weighs h.held 128) in
-    subst (λ n. AllShown n m f t h) (sym is) (shown (digits _ _ _ _ _ _ _ _ (small m.failing) (small m.held) (small f.held) (small f.failing) (small t.failing) (small h.failing) (small t.held) (small h.held)))
-  where
-    shown : {n : ℕ} → Digits n (digit m.failing) (digit m.held) (digit f.held) (digit f.failing) (digit t.failing) (digit h.failing) (digit t.held) (digit h.held) → AllShown n m f t h
-    shown d = record {
-      missing = record { failing = tells m.failing _ d.bit0; held = tells m.held _ d.bit1 };
-      fault = record { failing = tells f.failing _ d.bit3; held = tells f.held _ d.bit2 };
-      tach = record { failing = tells t.failing _ d.bit4; held = tells t.held _ d.bit6 };
-      plug = record { failing = tells h.failing _ d.bit5; held = tells h.held _ d.bit7 };
-    }
+shown : {n : ℕ} (m f t h : Mark) → Digits n (digit m.failing) (digit m.held) (digit f.held) (digit f.failing) (digit t.failing) (digit h.failing) (digit t.held) (digit h.held) → AllShown n m f t h
+shown m f t h d = record {
+  missing = record { failing = tells m.failing _ d.bit0; held = tells m.held _ d.bit1 };
+  fault = record { failing = tells f.failing _ d.bit3; held = tells f.held _ d.bit2 };
+  tach = record { failing = tells t.failing _ d.bit4; held = tells t.held _ d.bit6 };
+  plug = record { failing = tells h.failing _ d.bit5; held = tells h.held _ d.bit7 };
+}
+
+pub all_shown : (n : ℕ) (m f t h : Mark) → n ≡ status_byte m f t h → AllShown n m f t h
+all_shown n m f t h is =
+    let sum : n ≡ binary (digit m.failing) (digit m.held) (digit f.held) (digit f.failing) (digit t.failing) (digit h.failing) (digit t.held) (digit h.held) =
+    omega (arith, is, weighs m.failing 1, weighs m.held 2, weighs f.held 4, weighs f.failing 8, weighs t.failing 16, weighs h.failing 32, weighs t.held 64, weighs h.held 128) in
+    subst (λ n. AllShown n m f t h) (sym sum) (shown m f t h (digits _ _ _ _ _ _ _ _ (small m.failing) (small m.held) (small f.held) (small f.failing) (small t.failing) (small h.failing) (small t.held) (small h.held)))

@@ -3,6 +3,7 @@ pub mod Examples
 pub mod Kinds
 pub mod Meaning
 pub mod Own
+pub mod Report
 pub mod Sources
 pub mod Status
 pub mod Laws

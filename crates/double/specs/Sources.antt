@@ -1,5 +1,5 @@
 -- What a double unit does with its sources, by their numbers.
-use Rattle.std.specs.Prelude.{ℕ, ◌+◌, Bool, true, false, cond, not, ◌&&◌, ℤ, pos, negsuc, Some, None, Ok, Option, Result, ◌==◌, int_le}
+use Rattle.std.specs.Prelude.{ℕ, ◌+◌, Bool, true, false, cond, not, ◌&&◌, ℤ, pos, negsuc, Some, None, Ok, Option, Result, ◌==◌, int_le, int_lt}
 use Rattle.double_settings.specs.Parts.{channel_index, fan_at, fan_index, source_at}
 use Rattle.double_settings.specs.declared.parts.Fan.{Fan}
 use Rattle.double_settings.specs.declared.parts.FanSource.{FanSource}
@@ -46,6 +46,10 @@ takes s v = int_le (lowest s) v && int_le v (highest s)
 abbrev pub served_source : ℤ → Option Source → Result Source Fault
 served_source v None = refused NoSourceOrFan
 served_source v (Some s) = cond (takes s v) (Ok s) (refused ValueOutOfRange)
+
+-- whether a pin is set, from 0 or 1
+abbrev pub taken_pin : ℤ → Result Bool Fault
+taken_pin v = cond (int_le (pos 0) v && int_le v (pos 1)) (Ok (int_lt (pos 0) v)) (refused ValueOutOfRange)
 
 -- the bit of 10h, 11h that shows whether a fan's source is held
 abbrev pub held_bit : FanSource → ℕ

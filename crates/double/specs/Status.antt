@@ -1,9 +1,10 @@
 -- The byte of 10h and 11h: the marks of a fan's four sources.
-use Rattle.std.specs.Prelude.{◌≡◌, ℕ, ◌+◌, ◌*◌, Bool, cond}
-use Rattle.double_settings.specs.Parts.{fan_index}
+use Rattle.std.specs.Prelude.{◌≡◌, ℕ, ◌+◌, Bool, cond}
+use Rattle.double_settings.specs.Parts.{source_number}
 use Rattle.double_settings.specs.declared.parts.Fan.{Fan}
 use Rattle.double_settings.specs.declared.parts.FanSource.{FanSource}
 use Rattle.double_settings.specs.declared.parts.FanSource.TheVariants.{Missing, Fault, Tach, HotPlug}
+use Rattle.double_settings.specs.declared.parts.Source.TheVariants.{OfFan}
 use Rattle.quantity.specs.Quantities.{bit}
 use Rattle.unit.specs.declared.mark.Mark.{Mark}
 use Rattle.double.specs.Sources.{held_bit}
@@ -35,6 +36,10 @@ pub record AllShown (b : ℕ) (m f t h : Mark) : Type 0 where
   pub tach : Shows b Tach t
   pub plug : Shows b HotPlug h
 
+-- the mark of a fan's source
+abbrev pub mark_of : (ℕ → Mark) → Fan → FanSource → Mark
+mark_of m f k = m (source_number (OfFan f k))
+
 -- the byte of a fan's sources, of all marks
 abbrev pub status_of : (ℕ → Mark) → Fan → ℕ
-status_of m f = status_byte (m (4 * fan_index f)) (m (4 * fan_index f + 1)) (m (4 * fan_index f + 2)) (m (4 * fan_index f + 3))
+status_of m f = status_byte (mark_of m f Missing) (mark_of m f Fault) (mark_of m f Tach) (mark_of m f HotPlug)

@@ -1,48 +1,59 @@
 // The double unit: two fans with their sources, and three temperatures.
 #![tactic(auto)]
 
-ghost use Rattle.std.specs.Prelude.{◌≡◌, ◌%◌, T};
+ghost use Rattle.std.specs.Prelude.{◌≡◌, ◌%◌, refl};
 ghost use Rattle.double.specs.Examples.{WorkedExamples};
 ghost use Rattle.double.specs.Kinds.{alarm_byte, double, shown};
-ghost use Rattle.double.specs.Meaning.{marked_by, state_of};
-ghost use Rattle.double.specs.Own.{reported_by};
-ghost use Rattle.double.specs.Sources.{takes};
+ghost use Rattle.double.specs.Meaning.{noted, state_of};
+ghost use Rattle.double.specs.Report.{source_of, value_of};
 ghost use Rattle.double.specs.Status.{status_of};
+ghost use Rattle.double_settings.specs.Parts.{source_number};
 ghost use Rattle.double_settings.specs.Settings.{settings_of};
+ghost use Rattle.own.specs.State.{own_of};
 ghost use Rattle.unit.specs.Kind.{made};
 ghost use Rattle.unit.specs.Parts.{marks_of};
 ghost use Rattle.double.specs.Laws;
 
-use double_settings::parts::{Channel, Fan, Source};
+use base::fan_base;
+use double_settings::parts::{Channel, Fan, FanSource, Source};
 use double_settings::register::role_at;
 use double_settings::settings::Settings;
+use double_settings::strap::Strap;
 use fault::{Cause, Fault};
 use own::Own;
-use quantity::byte_of;
-use sources::{end_holds, served_source};
-use status::{status_byte, weight};
+use quantity::{byte_if, byte_of};
+use report::Report;
+use sources::end_holds;
+use status::status_byte;
 use unit::Unit;
+use unit::mark::Mark;
 use unit::marks::Marks;
 
-pub mod own;
+pub mod base;
+pub mod report;
 pub mod sources;
 pub mod status;
 
 #[derive(Drop)]
 pub struct Double {
-    strap: u8,
+    strap: Strap,
     settings: Settings,
-    own: Own,
+    own: Own<2, 3>,
     marks: Marks<11>,
 }
 
 impl Double {
-    // As made. The strap is taken modulo 8.
+    // As made. Any number is taken for a strap, modulo 8.
     pub fn new(strap: u8) -> Double
         ensures made { state_of result ≡ made double (strap % 8) }
         ensures examples { WorkedExamples }
     {
-        let strap = strap % 8;
+        Double::with_strap(Strap(strap % 8))
+    }
+
+    fn with_strap(strap: Strap) -> Double
+        ensures { state_of result ≡ made double strap.0 }
+    {
         Double {
             strap,
             settings: Settings::power_on(strap),
@@ -51,42 +62,45 @@ impl Double {
         }
     }
 
-    // A report that is served: it changes one source's mark, and the own state.
-    fn note(&mut self, number: usize, source: Source, value: i32)
-        requires { T (takes source value) }
-        ensures kept { (self.new.strap ≡ self.old.strap) × (self.new.settings ≡ self.old.settings) }
-        ensures marks { marks_of self.new.marks ≡ marked_by self.old number source value }
-        ensures own { self.new.own ≡ reported_by (settings_of self.old.settings) self.old.own value source }
+    // A report changes one source's mark, and the own state.
+    fn note(&mut self, report: Report)
+        ensures { state_of self.new ≡ noted (state_of self.old) (source_of report) (value_of report) }
     {
-        let fails = self.settings.fails(source, value);
+        let source = report.source();
+        let fails = self.settings.fails(source, report.value());
         let holds = self.settings.holds(source);
-        self.marks.report(number, fails, holds);
-        self.own = self.own.reported(&self.settings, source, value);
+        self.marks.report(source.number(), fails, holds);
+        report.keep(&mut self.own, &self.settings);
+    }
+
+    fn mark(&self, source: Source) -> Mark
+        ensures { result ≡ marks_of self.now.marks (source_number source) }
+    {
+        self.marks.get(source.number())
     }
 
     // The marks of a fan's sources.
     fn status(&self, fan: Fan) -> u8
         ensures { result ≡ status_of (marks_of self.now.marks) fan }
     {
-        let first = 4 * usize::from(fan.index());
-        let missing = self.marks.get(first);
-        let fault = self.marks.get(first + 1);
-        let tach = self.marks.get(first + 2);
-        status_byte(missing, fault, tach, self.marks.get(first + 3))
+        let missing = self.mark(Source::OfFan(fan, FanSource::Missing));
+        let fault = self.mark(Source::OfFan(fan, FanSource::Fault));
+        let tach = self.mark(Source::OfFan(fan, FanSource::Tach));
+        let hot_plug = self.mark(Source::OfFan(fan, FanSource::HotPlug));
+        status_byte(missing, fault, tach, hot_plug)
     }
 
     // The settings of a temperature, with its held bit.
     fn alarm(&self, channel: Channel) -> u8
         ensures { result ≡ alarm_byte (settings_of self.now.settings) (marks_of self.now.marks) channel }
     {
-        let index = channel.index();
-        let held = self.marks.get(8 + usize::from(index)).held;
-        self.settings.byte(0x40 + index) | weight(held, 0x80)
+        let held = self.mark(Source::Temperature(channel)).held;
+        self.settings.byte(0x40 + channel.index()) | byte_if(held, 0x80)
     }
 
     // The byte that a register shows.
     fn shown(&self, register: u8) -> u8
-        ensures { result ≡ shown (settings_of self.now.settings) (marks_of self.now.marks) self.now.own register }
+        ensures { result ≡ shown (settings_of self.now.settings) (marks_of self.now.marks) (own_of self.now.own) register }
     {
         match register {
             0x10 => self.status(Fan::First),
@@ -94,11 +108,11 @@ impl Double {
             0x40 => self.alarm(Channel::Local),
             0x41 => self.alarm(Channel::Remote1),
             0x42 => self.alarm(Channel::Remote2),
-            0x70 => self.own.tach(Fan::First),
-            0x71 => self.own.tach(Fan::Second),
-            0xa0 => byte_of(self.own.loop_of(Channel::Local).reading),
-            0xa1 => byte_of(self.own.loop_of(Channel::Remote1).reading),
-            0xa2 => byte_of(self.own.loop_of(Channel::Remote2).reading),
+            0x70 => self.own.tach(Fan::First.into()),
+            0x71 => self.own.tach(Fan::Second.into()),
+            0xa0 => byte_of(self.own.loop_of(Channel::Local.into()).reading),
+            0xa1 => byte_of(self.own.loop_of(Channel::Remote1.into()).reading),
+            0xa2 => byte_of(self.own.loop_of(Channel::Remote2.into()).reading),
             _ => self.settings.byte(register),
         }
     }
@@ -109,26 +123,24 @@ impl Unit for Double {
 
     const SOURCES: usize = 11;
 
+    ghost FANS = { 2 };
+
+    ghost SOURCES = { 11 };
+
     ghost kind = { double };
 
     ghost state = { state_of };
+
+    ghost fans_are = { refl };
+
+    ghost sources_are = { refl };
 
     ghost ordered = { Laws.ordered };
 
     ghost faithful = { Laws.faithful };
 
-    fn fan_count() -> usize {
-        Self::FANS
-    }
-
-    fn source_count() -> usize {
-        Self::SOURCES
-    }
-
     fn reset(&mut self) {
-        self.settings = Settings::power_on(self.strap);
-        self.own = Own::fresh();
-        self.marks = Marks::clear();
+        *self = Double::with_strap(self.strap);
     }
 
     fn write(&mut self, register: u8, byte: u8) -> Result<(), Fault> {
@@ -138,15 +150,12 @@ impl Unit for Double {
     }
 
     fn read(&self, register: u8) -> Result<u8, Fault> {
-        match role_at(register) {
-            Some(_) => Ok(self.shown(register)),
-            None => Err(Cause::NoRegister.unplaced()),
-        }
+        role_at(register).ok_or(Cause::NoRegister.unplaced())?;
+        Ok(self.shown(register))
     }
 
     fn report(&mut self, source: usize, value: i32) -> Result<(), Fault> {
-        let served = served_source(source, value)?;
-        self.note(source, served, value);
+        self.note(Report::new(source, value)?);
         Ok(())
     }
 
@@ -155,22 +164,17 @@ impl Unit for Double {
     }
 
     fn pulls(&self, source: usize) -> bool {
-        match Source::at(source) {
-            Some(source) => self.settings.pulls(source),
-            None => false,
-        }
+        Source::try_from(source).is_ok_and(|source| self.settings.pulls(source))
     }
 
     fn asserts(&self, source: usize) -> bool {
-        match Source::at(source) {
-            Some(source) => self.settings.asserts(source),
-            None => false,
-        }
+        Source::try_from(source).is_ok_and(|source| self.settings.asserts(source))
     }
 
     fn demand(&self, source: usize, fan: usize) -> u8 {
-        match (Source::at(source), Fan::at(fan)) {
-            (Some(source), Some(fan)) => self.settings.demand(source, fan),
+        // A match, since it asks for a source and a fan together.
+        match (Source::try_from(source), Fan::try_from(fan)) {
+            (Ok(source), Ok(fan)) => self.settings.demand(source, fan),
             _ => 0,
         }
     }
@@ -180,17 +184,13 @@ impl Unit for Double {
     }
 
     fn answer(&self, fan: usize) -> u8 {
-        match Fan::at(fan) {
-            Some(fan) => self.settings.answer(fan),
-            None => 0,
-        }
+        Fan::try_from(fan).map_or(0, |fan| self.settings.answer(fan))
     }
 
     fn base(&self, fan: usize) -> u8 {
-        match Fan::at(fan) {
-            Some(fan) => self.own.base(self.strap, &self.settings, fan),
-            None => 0,
-        }
+        Fan::try_from(fan).map_or(0, |fan| {
+            fan_base(self.strap, &self.settings, &self.own, fan)
+        })
     }
 
     fn interrupt(&self, cause: bool) -> bool {

@@ -1,5 +1,5 @@
 -- The fans, channels and sources of a double unit, by number.
-use Rattle.std.specs.Prelude.{ℕ, suc, cond, List, [], ◌∷◌, Some, None, Option, ◌==◌}
+use Rattle.std.specs.Prelude.{ℕ, ◌+◌, ◌*◌, List, [], ◌∷◌, Option, slice_get}
 use Rattle.double_settings.specs.declared.parts.Channel.{Channel}
 use Rattle.double_settings.specs.declared.parts.Channel.TheVariants.{Local, Remote1, Remote2}
 use Rattle.double_settings.specs.declared.parts.Fan.{Fan}
@@ -9,16 +9,14 @@ use Rattle.double_settings.specs.declared.parts.FanSource.TheVariants.{Missing, 
 use Rattle.double_settings.specs.declared.parts.Source.{Source}
 use Rattle.double_settings.specs.declared.parts.Source.TheVariants.{OfFan, Temperature}
 
--- the item with this number, if the first has the number k
-abbrev pub numbered : {A : Type 0} → ℕ → List A → ℕ → Option A
-numbered k [] n = None
-numbered k (x ∷ xs) n = cond (n == k) (Some x) (numbered (suc k) xs n)
-
 abbrev pub fans : List Fan
 fans = First ∷ Second ∷ []
 
 abbrev pub fan_at : ℕ → Option Fan
-fan_at = numbered 0 fans
+fan_at n = slice_get fans n
+
+abbrev pub channels : List Channel
+channels = Local ∷ Remote1 ∷ Remote2 ∷ []
 
 abbrev pub sources : List Source
 sources =
@@ -27,7 +25,7 @@ sources =
     ∷ Temperature Local ∷ Temperature Remote1 ∷ Temperature Remote2 ∷ []
 
 abbrev pub source_at : ℕ → Option Source
-source_at = numbered 0 sources
+source_at n = slice_get sources n
 
 abbrev pub fan_index : Fan → ℕ
 fan_index First = 0
@@ -44,3 +42,8 @@ kind_index Missing = 0
 kind_index Fault = 1
 kind_index Tach = 2
 kind_index HotPlug = 3
+
+-- the number of a source
+abbrev pub source_number : Source → ℕ
+source_number (OfFan f k) = 4 * fan_index f + kind_index k
+source_number (Temperature c) = 8 + channel_index c

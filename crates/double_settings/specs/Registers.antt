@@ -43,10 +43,14 @@ role_at r = role_of (look (rows 0) r)
 abbrev pub power_on_byte : ℕ → ℕ → ℕ
 power_on_byte p r = start_of (look (rows p) r)
 
--- the bytes that are not 0 at power-on, each with its register
-abbrev pub first_bytes : ℕ → ℕ → ℕ → List (ℕ × ℕ)
-first_bytes control driven start =
-    (0x01, control) ∷ (0x48, driven) ∷ (0x49, driven) ∷ (0x4a, driven)
+-- the bytes that are not 0 at power-on, each with its register, by whether control is automatic, and the start of the loops
+abbrev pub first_bytes_for : Bool → ℕ → List (ℕ × ℕ)
+first_bytes_for automatic start =
+    (0x01, cond automatic 0x10 0x00)
+    ∷ (0x48, cond automatic 0x03 0x00) ∷ (0x49, cond automatic 0x03 0x00) ∷ (0x4a, cond automatic 0x03 0x00)
     ∷ (0x60, 0xff) ∷ (0x61, 0xff) ∷ (0x68, 0x2f) ∷ (0x69, 0x2f) ∷ (0x78, 0xff) ∷ (0x79, 0xff)
     ∷ (0x80, start) ∷ (0x81, start) ∷ (0x82, start) ∷ (0x88, 0x51) ∷ (0x89, 0x51) ∷ (0x8a, 0x51)
     ∷ (0x90, 0x50) ∷ (0x91, 0x64) ∷ (0x92, 0x64) ∷ []
+
+abbrev pub first_bytes : ℕ → List (ℕ × ℕ)
+first_bytes p = first_bytes_for (is_automatic p) (first_start p)

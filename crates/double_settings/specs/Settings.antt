@@ -1,5 +1,6 @@
 -- The settings of a double unit, by register, and what they say.
 use Rattle.std.specs.Prelude.{ℕ, ◌+◌, ◌/◌, ◌%◌, max, Bool, true, cond, not, ◌&&◌, ◌||◌, ℤ, pos}
+use Rattle.control.specs.declared.thermostat.Thermostat.{Thermostat}
 use Rattle.quantity.specs.Quantities.{bit, low_level, high_level, signed}
 use Rattle.registers.specs.Settings.{settings_in}
 use Rattle.double_settings.specs.declared.parts.Channel.{Channel}
@@ -57,6 +58,10 @@ code_at s c = s (0x88 + channel_index c) % 16
 abbrev pub hysteresis_at : (ℕ → ℕ) → Channel → ℕ
 hysteresis_at s c = s (0x88 + channel_index c) / 16
 
+-- when a report turns the loop of a channel on
+abbrev pub thermostat_at : (ℕ → ℕ) → Channel → Thermostat
+thermostat_at s c = record { start = start_at s c; hysteresis = hysteresis_at s c }
+
 abbrev pub alarms : (ℕ → ℕ) → Channel → Bool
 alarms s c = bit (s (0x40 + channel_index c)) 1
 
@@ -78,13 +83,16 @@ abbrev pub holds : (ℕ → ℕ) → Source → Bool
 holds s (OfFan f k) = true
 holds s (Temperature c) = alarms s c
 
+-- the bit of a source for one effect: of a fan's sources the four bits from `first` on, of a temperature bit k
+abbrev pub has_effect : (ℕ → ℕ) → ℕ → ℕ → Source → Bool
+has_effect s first k (OfFan f m) = bit (s (0x18 + fan_index f)) (first + kind_index m)
+has_effect s first k (Temperature c) = bit (s (0x40 + channel_index c)) k
+
 abbrev pub pulls_by : (ℕ → ℕ) → Source → Bool
-pulls_by s (OfFan f k) = bit (s (0x18 + fan_index f)) (4 + kind_index k)
-pulls_by s (Temperature c) = bit (s (0x40 + channel_index c)) 2
+pulls_by s x = has_effect s 4 2 x
 
 abbrev pub asserts_by : (ℕ → ℕ) → Source → Bool
-asserts_by s (OfFan f k) = bit (s (0x18 + fan_index f)) (kind_index k)
-asserts_by s (Temperature c) = bit (s (0x40 + channel_index c)) 0
+asserts_by s x = has_effect s 0 0 x
 
 -- what these bits ask of fan f: bits 0, 1 its alarm level, if it is fan 1, 2; bits 2, 3 its hot-plug level; the greater if both
 abbrev pub demand_by_bits : (ℕ → ℕ) → ℕ → Fan → ℕ

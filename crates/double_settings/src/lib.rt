@@ -4,3 +4,4 @@
 pub mod parts;
 pub mod register;
 pub mod settings;
+pub mod strap;

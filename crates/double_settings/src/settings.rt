@@ -1,53 +1,33 @@
 // The settings of a double unit, and what they say.
-ghost use Rattle.std.specs.Prelude.{◌≡◌, if◌then◌else◌, int_lt};
-ghost use Rattle.double_settings.specs.Registers.{first_bytes, first_start, is_automatic, power_on_byte, role_at};
-ghost use Rattle.double_settings.specs.Settings.{settings_of, monitoring, forces_line, interrupt_by, pin_by, alarm_level, minimum, hot_plug_level, answer_of, start_at, code_at, hysteresis_at, alarms, drives, limit_of, holds, pulls_by, asserts_by, demand_by_bits, demand_by};
+ghost use Rattle.std.specs.Prelude.{◌≡◌, ◌≤◌, int_lt};
+ghost use Rattle.double_settings.specs.Registers.{first_bytes, power_on_byte, role_at};
+ghost use Rattle.double_settings.specs.Settings.{settings_of, monitoring, forces_line, interrupt_by, pin_by, alarm_level, minimum, hot_plug_level, answer_of, start_at, code_at, hysteresis_at, thermostat_at, alarms, drives, limit_of, holds, has_effect, pulls_by, asserts_by, demand_by_bits, demand_by};
 ghost use Rattle.quantity.specs.Quantities.{bit};
 ghost use Rattle.registers.specs.Roles.{answer_to, stored_as};
 ghost use Rattle.unit.specs.Steps.{after};
 
 use crate::parts::{Channel, Fan, FanSource, Source};
 use crate::register::role_at;
-use control::Range;
+use crate::strap::Strap;
+use control::{Ramp, Range, Thermostat};
 use fault::Fault;
-use quantity::{high_level, is_bit, low_level, signed};
+use quantity::{byte_if, high_level, is_bit, low_level, signed};
 use registers::store::Store;
 
-// The three range codes stand at 88h to 8Ah.
+// The three range codes stand at 88h to 8Ah. Like a store, these have no model. Questions that a single unit has too read other registers: a type over all their numbers would
+// be no plainer.
 #[derive(Drop)]
 pub struct Settings {
     pub store: Store<3, 0x88>,
 }
 
-// The byte while on, else 0.
-fn byte_if(on: bool, byte: u8) -> u8
-    ensures { result ≡ (if on then byte else 0) }
-{
-    if on { byte } else { 0 }
-}
-
-// Whether the strap leaves automatic control on.
-pub fn is_automatic(strap: u8) -> bool
-    ensures { result ≡ is_automatic strap }
-{
-    !(strap == 0 || strap == 7)
-}
-
-// The start of every loop at power-on, by the strap.
-fn first_start(strap: u8) -> u8
-    ensures { result ≡ first_start strap }
-{
-    match strap {
-        1 | 6 => 48,
-        2 | 5 => 40,
-        _ => 32,
-    }
-}
-
 // Every byte that is not 0 at power-on: control at 01h, the fans that each channel drives, the start of each loop, and the rest.
-fn power_on_bytes(control: u8, driven: u8, start: u8) -> [(u8, u8); 19]
-    ensures { result ≡ first_bytes control driven start }
+fn power_on_bytes(strap: Strap) -> [(u8, u8); 19]
+    ensures { result ≡ first_bytes strap.0 }
 {
+    let control = byte_if(strap.is_automatic(), 0x10);
+    let driven = byte_if(strap.is_automatic(), 0x03);
+    let start = strap.start();
     [
         (0x01, control),
         (0x48, driven),
@@ -72,15 +52,11 @@ fn power_on_bytes(control: u8, driven: u8, start: u8) -> [(u8, u8); 19]
 }
 
 impl Settings {
-    pub fn power_on(strap: u8) -> Settings
-        ensures { settings_of result ≡ power_on_byte strap }
+    pub fn power_on(strap: Strap) -> Settings
+        ensures { settings_of result ≡ power_on_byte strap.0 }
     {
-        let automatic = is_automatic(strap);
-        let control = byte_if(automatic, 0x10);
-        let driven = byte_if(automatic, 0x03);
-        let bytes = power_on_bytes(control, driven, first_start(strap));
         Settings {
-            store: Store::power_on(&bytes),
+            store: Store::power_on(&power_on_bytes(strap)),
         }
     }
 
@@ -126,12 +102,7 @@ impl Settings {
     pub fn pin(&self, cause: bool) -> bool
         ensures { result ≡ pin_by (settings_of self.now) cause }
     {
-        let polarity = self.is_set(0x01, 7);
-        if self.interrupt(cause) {
-            polarity
-        } else {
-            !polarity
-        }
+        self.is_set(0x01, 7) == self.interrupt(cause)
     }
 
     pub fn alarm_level(&self, fan: Fan) -> u8
@@ -178,6 +149,29 @@ impl Settings {
         self.byte(0x88 + channel.index()) / 16
     }
 
+    // When a report turns the loop of a channel on.
+    pub fn thermostat(&self, channel: Channel) -> Thermostat
+        ensures { result ≡ thermostat_at (settings_of self.now) channel }
+    {
+        Thermostat {
+            start: self.start(channel),
+            hysteresis: self.hysteresis(channel),
+        }
+    }
+
+    // How the loop of a channel drives a fan.
+    pub fn ramp(&self, channel: Channel, fan: Fan) -> Ramp
+        ensures start { result.start ≡ start_at (settings_of self.now) channel }
+        ensures range { result.range.code ≡ code_at (settings_of self.now) channel }
+        ensures minimum { result.minimum ≡ minimum (settings_of self.now) fan }
+    {
+        Ramp {
+            start: self.start(channel),
+            range: self.range(channel),
+            minimum: self.minimum(fan),
+        }
+    }
+
     fn alarms(&self, channel: Channel) -> bool
         ensures { result ≡ alarms (settings_of self.now) channel }
     {
@@ -218,23 +212,31 @@ impl Settings {
         }
     }
 
-    pub fn pulls(&self, source: Source) -> bool
-        ensures { result ≡ pulls_by (settings_of self.now) source }
+    // The bit of a source for one effect: of a fan's sources the four bits from `first` on, of a temperature this bit.
+    fn has_effect(&self, source: Source, first: u8, bit: u8) -> bool
+        requires { first ≤ 4 }
+        ensures { result ≡ has_effect (settings_of self.now) first bit source }
     {
         match source {
-            Source::OfFan(fan, kind) => self.is_set(0x18 + fan.index(), 4 + kind.index()),
-            Source::Temperature(channel) => self.is_set(0x40 + channel.index(), 2),
+            Source::OfFan(fan, kind) => self.is_set(0x18 + fan.index(), first + kind.index()),
+            Source::Temperature(channel) => self.is_set(0x40 + channel.index(), bit),
         }
     }
 
+    // A fan's sources by bits 4 to 7, a temperature by bit 2.
+    pub fn pulls(&self, source: Source) -> bool
+        ensures { result ≡ pulls_by (settings_of self.now) source }
+    {
+        self.has_effect(source, 4, 2)
+    }
+
+    // A fan's sources by bits 0 to 3, a temperature by bit 0.
     pub fn asserts(&self, source: Source) -> bool
         ensures { result ≡ asserts_by (settings_of self.now) source }
     {
-        match source {
-            Source::OfFan(fan, kind) => self.is_set(0x18 + fan.index(), kind.index()),
-            Source::Temperature(channel) => self.is_set(0x40 + channel.index(), 0),
-        }
+        self.has_effect(source, 0, 0)
     }
+
     // What the bits of a fan's sources ask of a fan: its alarm level, its hot-plug level, or the greater of both.
     fn demand_by_bits(&self, register: u8, fan: Fan) -> u8
         ensures { result ≡ demand_by_bits (settings_of self.now) register fan }

@@ -54,7 +54,7 @@ mod tests {
         Err(cause.unplaced())
     }
 
-    // A call that must be served, or a question with its answer.
+    // A call that must be served, or a question with its answer. They are data, since a closure in each row would say no more.
     #[derive(Clone, Copy)]
     enum Step {
         Write(u8, u8),
@@ -102,8 +102,8 @@ mod tests {
     }
 
     fn play(rt: &impl Abort, unit: &mut Double, steps: &[Step]) -> Result<(), Fail> {
-        for step in steps {
-            play_step(rt, unit, *step)?;
+        for &step in steps {
+            play_step(rt, unit, step)?;
         }
         Ok(())
     }
@@ -129,15 +129,9 @@ mod tests {
     }
 
     fn is_there(register: u8) -> bool {
-        for (first, last, _, _) in SETTINGS {
-            if first <= register && register <= last {
-                return true;
-            }
-        }
-        match register {
-            0x10 | 0x11 | 0x70 | 0x71 | 0xa0..=0xa2 => true,
-            _ => false,
-        }
+        let is_setting = SETTINGS.iter().any(|(first, last, _, _)| *first <= register
+            && register <= *last);
+        is_setting || matches!(register, 0x10..=0x11 | 0x70..=0x71 | 0xa0..=0xa2)
     }
 
     #[test]

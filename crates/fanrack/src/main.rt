@@ -19,6 +19,7 @@ impl From<io::Error> for Failed {
 // The list, or of too long a list one byte more than a list may have: the rest is left unread.
 fn read_list(rt: &HostRuntime) -> io::Result<Vec<u8>> {
     let mut list = Vec::new(rt.alloc());
+    // A cast: there is no conversion of a `usize` that always fits.
     let mut input = rt.stdin().take(LONGEST as u64 + 1);
     input.read_to_end(&mut list)?;
     Ok(list)

@@ -1,5 +1,6 @@
 -- The number and the layer of each cause of refusal, and the line that tells a fault.
-use Rattle.std.specs.Prelude.{ℕ, List, ◌++◌, codes, decimal}
+use Rattle.std.specs.Prelude.{ℕ, List, ◌++◌, Some, None, Option, codes, decimal}
+use Rattle.std.specs.Option.{unwrap_or}
 use Rattle.fault.specs.declared.Cause.{Cause}
 use Rattle.fault.specs.declared.Cause.TheVariants.{NoUnit, NoRegister, ReadOnly, RangeCode, NoSourceOrFan, ValueOutOfRange, ListTooLong, NoForm, NoTrailer, TrailerCount, FanCount, BufferTooShort}
 use Rattle.fault.specs.declared.Layer.{Layer}
@@ -27,12 +28,16 @@ rule BufferTooShort = record { number = 12; layer = InText }
 
 -- a fault of the line at p
 abbrev pub fault_at : Cause → Place → Fault
-fault_at c p = record { cause = c; place = p }
+fault_at c p = record { cause = c; place = Some p }
 
 -- a fault that no line has
 abbrev pub unplaced : Cause → Fault
-unplaced c = fault_at c (record { line = 0; offset = 0 })
+unplaced c = record { cause = c; place = None }
+
+-- the place that a fault tells: 0 and 0 where it has no line
+abbrev pub told_place : Option Place → Place
+told_place o = unwrap_or o (record { line = 0; offset = 0 })
 
 -- `fault NUMBER LINE OFFSET`, in decimal
 abbrev pub fault_line : Fault → List ℕ
-fault_line f = codes "fault " ++ (decimal (rule f.cause).number ++ (codes " " ++ (decimal f.place.line ++ (codes " " ++ decimal f.place.offset))))
+fault_line f = codes "fault " ++ (decimal (rule f.cause).number ++ (codes " " ++ (decimal (told_place f.place).line ++ (codes " " ++ decimal (told_place f.place).offset))))

@@ -2,25 +2,28 @@
 #![tactic(auto)]
 
 ghost use Rattle.std.specs.Prelude.{◌≡◌, Some};
+ghost use Rattle.fault.specs.declared.Cause.TheVariants.{ValueOutOfRange};
 ghost use Rattle.fault.specs.Faults.{rule, fault_at, unplaced, fault_line};
 
+use std::error::Error;
 use std::fmt;
+use std::num::TryFromIntError;
 
 // The twelve refusals. Their numbers and layers are `rule` in specs/Faults.antt.
 #[derive(Clone, Copy, PartialEq, Eq, Debug)]
 pub enum Cause {
-    NoUnit,
-    NoRegister,
-    ReadOnly,
-    RangeCode,
-    NoSourceOrFan,
-    ValueOutOfRange,
-    ListTooLong,
-    NoForm,
-    NoTrailer,
-    TrailerCount,
-    FanCount,
-    BufferTooShort,
+    NoUnit = 1,
+    NoRegister = 2,
+    ReadOnly = 3,
+    RangeCode = 4,
+    NoSourceOrFan = 5,
+    ValueOutOfRange = 6,
+    ListTooLong = 7,
+    NoForm = 8,
+    NoTrailer = 9,
+    TrailerCount = 10,
+    FanCount = 11,
+    BufferTooShort = 12,
 }
 
 // The part of the software that meets a cause.
@@ -33,7 +36,6 @@ pub enum Layer {
 }
 
 // A line of a set-up list: its number, from 1, and the offset of its first byte.
-// Both are 0 where a fault has no line.
 #[derive(Clone, Copy, PartialEq, Eq, Debug)]
 pub struct Place {
     pub line: usize,
@@ -43,27 +45,15 @@ pub struct Place {
 #[derive(Clone, Copy, PartialEq, Eq, Debug)]
 pub struct Fault {
     pub cause: Cause,
-    pub place: Place,
+    // None for a fault of the whole list, or of a call outside a list
+    pub place: Option<Place>,
 }
 
 impl Cause {
     pub fn number(self) -> u8
         ensures { result ≡ (rule self).number }
     {
-        match self {
-            Cause::NoUnit => 1,
-            Cause::NoRegister => 2,
-            Cause::ReadOnly => 3,
-            Cause::RangeCode => 4,
-            Cause::NoSourceOrFan => 5,
-            Cause::ValueOutOfRange => 6,
-            Cause::ListTooLong => 7,
-            Cause::NoForm => 8,
-            Cause::NoTrailer => 9,
-            Cause::TrailerCount => 10,
-            Cause::FanCount => 11,
-            Cause::BufferTooShort => 12,
-        }
+        self as u8
     }
 
     pub fn layer(self) -> Layer
@@ -89,14 +79,31 @@ impl Cause {
     pub fn at(self, place: Place) -> Fault
         ensures { result ≡ fault_at self place }
     {
-        Fault { cause: self, place }
+        Fault {
+            cause: self,
+            place: Some(place),
+        }
     }
 
     // A fault of the whole list, or of a call outside a list.
     pub fn unplaced(self) -> Fault
         ensures { result ≡ unplaced self }
     {
-        self.at(Place { line: 0, offset: 0 })
+        Fault {
+            cause: self,
+            place: None,
+        }
+    }
+}
+
+impl Error for Fault {}
+
+// A number that its type can't hold.
+impl From<TryFromIntError> for Fault {
+    ghost from_gives = { λ _ f. f ≡ unplaced ValueOutOfRange };
+
+    fn from(_error: TryFromIntError) -> Fault {
+        Cause::ValueOutOfRange.unplaced()
     }
 }
 
@@ -105,8 +112,9 @@ impl fmt::Display for Fault {
 
     fn fmt<W: fmt::Write>(&self, f: &mut fmt::Formatter<W>) -> fmt::Result {
         let number = self.cause.number();
-        let line = self.place.line;
-        let offset = self.place.offset;
+        let (line, offset) = self
+            .place
+            .map_or((0, 0), |place| (place.line, place.offset));
         write!(f, "fault {number} {line} {offset}")
     }
 }

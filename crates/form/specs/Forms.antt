@@ -1,5 +1,6 @@
 -- What the bytes of a set-up line say: its form and its fields.
-use Rattle.std.specs.Prelude.{ℕ, ◌+◌, ◌-◌, ◌*◌, Bool, true, cond, ◌&&◌, List, [], ◌∷◌, length, drop, Some, None, Option, ◌==◌, nat_le, slice_index}
+use Rattle.std.specs.Prelude.{ℕ, ◌+◌, ◌-◌, ◌*◌, Bool, cond, ◌&&◌, List, [], ◌∷◌, length, drop, Some, None, Option, ◌==◌, nat_le, slice_index}
+use Rattle.std.specs.List.{list_all}
 use Rattle.form.specs.declared.Line.{Line}
 use Rattle.form.specs.declared.Line.TheVariants as line
 use Rattle.form.specs.declared.Opening.{Opening}
@@ -53,8 +54,7 @@ abbrev pub printable : ℕ → Bool
 printable b = within 32 126 b
 
 abbrev pub all_printable : List ℕ → Bool
-all_printable [] = true
-all_printable (b ∷ bs) = printable b && all_printable bs
+all_printable bs = list_all printable bs
 
 -- the hexadecimal byte whose two digits stand at i and after it
 abbrev pub byte_at : List ℕ → ℕ → Option ℕ

@@ -7,7 +7,7 @@ ghost use Rattle.form.specs.Forms.{opening, hex_digit, hex_byte, decimal_digit, 
 ghost use Rattle.form.specs.Spelling.{Understood};
 
 // A line without its newline. A remark is its own part of the list.
-#[derive(Clone, Copy)]
+#[derive(Clone, Copy, PartialEq, Eq, Debug)]
 pub enum Line<'a> {
     Write { unit: u8, register: u8, byte: u8 },
     Fans { unit: u8, count: u8 },
@@ -47,22 +47,6 @@ fn opening_of(first: char) -> Option<Opening>
     }
 }
 
-fn hex_digit(b: u8) -> Option<u8>
-    ensures { result ≡ hex_digit b }
-{
-    match b {
-        b'0'..=b'9' => Some(b - b'0'),
-        b'A'..=b'F' => Some(b - b'A' + 10),
-        _ => None,
-    }
-}
-
-fn hex_byte(high: u8, low: u8) -> Option<u8>
-    ensures { result ≡ hex_byte high low }
-{
-    Some(hex_digit(high)? * 16 + hex_digit(low)?)
-}
-
 fn decimal_digit(b: u8) -> Option<u8>
     ensures { result ≡ decimal_digit b }
 {
@@ -72,82 +56,81 @@ fn decimal_digit(b: u8) -> Option<u8>
     }
 }
 
+fn hex_digit(b: u8) -> Option<u8>
+    ensures { result ≡ hex_digit b }
+{
+    match b {
+        b'A'..=b'F' => Some(b - b'A' + 10),
+        _ => decimal_digit(b),
+    }
+}
+
+fn hex_byte(high: u8, low: u8) -> Option<u8>
+    ensures { result ≡ hex_byte high low }
+{
+    Some(hex_digit(high)? * 16 + hex_digit(low)?)
+}
+
 fn is_printable(b: u8) -> bool
     ensures { result ≡ printable b }
 {
-    b >= 0x20 && b <= 0x7e
+    matches!(b, b' '..=b'~')
 }
 
 // No early return: a loop that always runs to the end is compiled to vector instructions.
 fn all_printable(text: &[u8]) -> bool
     ensures { result ≡ all_printable text.now }
 {
-    let mut all = true;
-    for b in text {
-        all &= is_printable(*b);
-    }
-    all
+    text.iter().fold(true, |all, b| all & is_printable(*b))
 }
 
 fn write_line(text: &[u8]) -> Option<Line<'_>>
     ensures { option_map meaning result ≡ as_write text.now }
 {
-    if text.len() != 10 || text[1] != b' ' || text[4] != b' ' || text[7] != b' ' {
+    let &[_, b' ', a1, a0, b' ', r1, r0, b' ', v1, v0] = text else {
         return None;
-    }
-    let unit = hex_byte(text[2], text[3])?;
-    let register = hex_byte(text[5], text[6])?;
-    let byte = hex_byte(text[8], text[9])?;
+    };
     Some(Line::Write {
-        unit,
-        register,
-        byte,
+        unit: hex_byte(a1, a0)?,
+        register: hex_byte(r1, r0)?,
+        byte: hex_byte(v1, v0)?,
     })
 }
 
 fn fans_line(text: &[u8]) -> Option<Line<'_>>
     ensures { option_map meaning result ≡ as_fans text.now }
 {
-    if text.len() != 6 || text[1] != b' ' || text[4] != b' ' {
+    let &[_, b' ', a1, a0, b' ', n] = text else {
         return None;
-    }
-    let unit = hex_byte(text[2], text[3])?;
-    let count = decimal_digit(text[5])?;
-    Some(Line::Fans { unit, count })
-}
-
-// Whether the text has a remark's length, and a space after its first byte.
-fn is_remark_shaped(text: &[u8]) -> bool
-    ensures { result ≡ remark_shaped text.now }
-{
-    text.len() >= 2 && text.len() <= 62 && text[1] == b' '
+    };
+    Some(Line::Fans {
+        unit: hex_byte(a1, a0)?,
+        count: decimal_digit(n)?,
+    })
 }
 
 fn remark_line(text: &[u8]) -> Option<Line<'_>>
     ensures { option_map meaning result ≡ as_remark text.now }
 {
-    if !is_remark_shaped(text) {
-        return None;
-    }
-    let (_, remark) = text.split_at(2);
-    if all_printable(remark) {
-        Some(Line::Remark(remark))
-    } else {
-        None
+    match text {
+        [_, b' ', remark @ ..] if remark.len() <= 60 && all_printable(remark) => {
+            Some(Line::Remark(remark))
+        }
+        _ => None,
     }
 }
 
 fn trailer_line(text: &[u8]) -> Option<Line<'_>>
     ensures { option_map meaning result ≡ as_trailer text.now }
 {
-    if text.len() != 6 || text[1] != b' ' {
+    let &[_, b' ', l3, l2, l1, l0] = text else {
         return None;
-    }
-    let high = hex_byte(text[2], text[3])?;
-    let low = hex_byte(text[4], text[5])?;
-    Some(Line::Trailer(u16::from(high) * 256 + u16::from(low)))
+    };
+    let count = [hex_byte(l3, l2)?, hex_byte(l1, l0)?];
+    Some(Line::Trailer(u16::from_be_bytes(count)))
 }
 
+// A match on the form, since no function may be handed out for it.
 fn formed(opening: Opening, text: &[u8]) -> Option<Line<'_>>
     ensures { option_map meaning result ≡ formed text.now opening }
 {
@@ -160,6 +143,7 @@ fn formed(opening: Opening, text: &[u8]) -> Option<Line<'_>>
 }
 
 // What a line without its newline says.
+#[tactic(auto, using(crate::proofs::Spelled::understood_as))]
 pub fn parse_line(text: &[u8]) -> Option<Line<'_>>
     ensures form { option_map meaning result ≡ form_of text.now }
     ensures spelling { Understood text.now (option_map meaning result) }

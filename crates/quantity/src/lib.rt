@@ -1,7 +1,7 @@
 // One conversion for each quantity that a register's byte holds.
 #![tactic(auto)]
 
-ghost use Rattle.std.specs.Prelude.{◌≡◌};
+ghost use Rattle.std.specs.Prelude.{◌≡◌, ◌≤◌, if◌then◌else◌};
 ghost use Rattle.quantity.specs.Quantities.{bit, low_level, high_level, signed, byte_of};
 
 // Bit k of a byte, which has bits 0 to 7.
@@ -9,6 +9,14 @@ pub fn is_bit(byte: u8, k: u8) -> bool
     ensures { result ≡ bit byte k }
 {
     k < 8 && (byte >> k) % 2 == 1
+}
+
+// The byte while on, else 0.
+pub fn byte_if(on: bool, byte: u8) -> u8
+    ensures is { result ≡ (if on then byte else 0) }
+    ensures small { result ≤ byte }
+{
+    if on { byte } else { 0 }
 }
 
 // The level that the low nibble stands for.
@@ -29,20 +37,12 @@ pub fn high_level(byte: u8) -> u8
 pub fn signed(byte: u8) -> i8
     ensures { result ≡ signed byte }
 {
-    if byte < 128 {
-        byte as i8
-    } else {
-        (i16::from(byte) - 256) as i8
-    }
+    byte.cast_signed()
 }
 
 // The byte that stands for these degrees.
 pub fn byte_of(degrees: i8) -> u8
     ensures { result ≡ byte_of degrees }
 {
-    if degrees < 0 {
-        (i16::from(degrees) + 256) as u8
-    } else {
-        degrees as u8
-    }
+    degrees.cast_unsigned()
 }

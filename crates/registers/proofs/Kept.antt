@@ -1,17 +1,11 @@
 -- Settings that are kept in two places, as one function of the register.
-use Rattle.std.proofs.Common.{◌≡◌, ℕ, zero, suc, ◌+◌, ◌-◌, ◌*◌, ◌/◌, ◌%◌, ◌<◌, ◌≤◌, Bool, true, false, cond, List, map, length, get_or, set, replicate, sym, refl, ap, ◌∙◌, arith}
+use Rattle.std.proofs.Common.{◌≡◌, ℕ, zero, suc, ◌+◌, ◌-◌, ◌*◌, ◌/◌, ◌%◌, ◌<◌, ◌≤◌, Bool, true, false, cond, List, map, length, get_or, set, replicate, refl, ap, ◌∙◌, arith}
 use Rattle.control.specs.declared.range.Range.{Range}
-use Rattle.std.proofs.lemmas.List.{get_or-map, get_or_past, length-map, map-set}
+use Rattle.std.proofs.lemmas.List.{length-map, map-set}
 use Rattle.std.proofs.lemmas.Bool.Decides.{nat_tests}
 use Rattle.unit.specs.Steps.{put}
 use Rattle.unit.proofs.Parts.{set-put}
-use Rattle.registers.specs.Settings.{code_in, has_code, kept, overlaid, with_code}
-
-pub code_read : (xs : List Range) (i : ℕ) (d : Range) → i < length xs → (get_or xs i d).code ≡ code_in xs i
-code_read xs i d h = sym (get_or-map (λ x. x.code) xs i d 0 h)
-
-pub code_past : (xs : List Range) (i : ℕ) → length xs ≤ i → code_in xs i ≡ 0
-code_past xs i h = get_or_past (map (λ x. x.code) xs) i 0 (simp length-map h)
+use Rattle.registers.specs.Settings.{code_in, has_code, kept, overlaid}
 
 pub code_set : (xs : List Range) (i : ℕ) (x : Range) → i < length xs → code_in (set xs i x) ≡ put (code_in xs) i x.code
 code_set xs i x h = ap (λ l n. get_or l n 0) (map-set (λ y. y.code) xs i x) ∙ set-put 0 (map (λ y. y.code) xs) i x.code (simp length-map h)
@@ -23,10 +17,10 @@ module _ (n first : ℕ) (codes f : ℕ → ℕ) (r b : ℕ) where
       at : (q : ℕ) → overlaid n first codes (put f r b) q ≡ kept n first (overlaid n first codes f) r b q
       at q = grind (arith, nat_tests)
 
-  pub put_code : has_code n first r ≡ true → b % 16 ≤ 4 → overlaid n first (with_code n codes (r - first) (b % 16)) (put f r b) ≡ kept n first (overlaid n first codes f) r b
+  pub put_code : has_code n first r ≡ true → b % 16 ≤ 4 → overlaid n first (put codes (r - first) (b % 16)) (put f r b) ≡ kept n first (overlaid n first codes f) r b
   put_code has small = λ i q. at q i
     where
-      at : (q : ℕ) → overlaid n first (with_code n codes (r - first) (b % 16)) (put f r b) q ≡ kept n first (overlaid n first codes f) r b q
+      at : (q : ℕ) → overlaid n first (put codes (r - first) (b % 16)) (put f r b) q ≡ kept n first (overlaid n first codes f) r b q
       at q = grind (arith, nat_tests)
 
 -- all zero

@@ -15,10 +15,6 @@ has_code n first r = nat_le first r && nat_lt r (first + n)
 abbrev pub code_in : List Range → ℕ → ℕ
 code_in codes = λ i. slice_index (map (λ x. x.code) codes) i
 
--- codes with this one in place of that at i, if there is one
-abbrev pub with_code : ℕ → (ℕ → ℕ) → ℕ → ℕ → ℕ → ℕ
-with_code n f i code = cond (nat_lt i n) (put f i code) f
-
 -- bytes, with the low nibbles that are range codes in their places
 abbrev pub overlaid : ℕ → ℕ → (ℕ → ℕ) → (ℕ → ℕ) → ℕ → ℕ
 overlaid n first codes f = λ r. cond (has_code n first r) (f r / 16 * 16 + codes (r - first)) (f r)

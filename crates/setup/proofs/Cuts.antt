@@ -10,9 +10,7 @@ use Rattle.setup.proofs.Lined.{lines_more}
 
 -- a byte in front of a list that is not empty goes in front of its first line, or is an empty line's newline
 one_byte : (t : Bool) (b : ℕ) (ls : List (List ℕ)) → 0 < length ls → (t ≡ true → b ≡ 10) → rejoined (cond t ([] ∷ ls) (onto b ls)) ≡ b ∷ rejoined ls
-one_byte true b ls some newline = ap (λ n. n ∷ rejoined ls) (sym (newline refl))
-one_byte false b [] some newline = absurd (omega arith)
-one_byte false b (l ∷ ls) some newline = refl
+one_byte t b ls some newline = grind arith
 
 pub some_lines : (bs : List ℕ) → 0 < length bs → 0 < length (lines bs)
 some_lines bs h = omega (arith, ap length (lines_more bs h))
@@ -49,9 +47,7 @@ rejoined_ended bs not-open =
     (last_byte bs)
 
 single_from : (t : Bool) (b : ℕ) (ls : List (List ℕ)) → (t ≡ false → b ≡ 10 → ⊥) → AllByRecursion (AllByRecursion (λ c. c ≡ 10 → ⊥)) ls → AllByRecursion (AllByRecursion (λ c. c ≡ 10 → ⊥)) (cond t ([] ∷ ls) (onto b ls))
-single_from true b ls other h = (tt, h)
-single_from false b [] other h = ((other refl, tt), tt)
-single_from false b (l ∷ ls) other h = ((other refl, h.0), h.1)
+single_from t b ls other h = grind arith
 
 -- no line has a newline in it
 pub single_lines : (bs : List ℕ) → AllByRecursion (AllByRecursion (λ c. c ≡ 10 → ⊥)) (lines bs)
@@ -71,25 +67,25 @@ texts_laid : (p : Place) (ls : List (List ℕ)) → texts (lay_out p ls) ≡ ls
 texts_laid p [] = refl
 texts_laid p (l ∷ ls) = ap (λ ts. l ∷ ts) (texts_laid (past p l) ls)
 
-single_laid : (p : Place) (ls : List (List ℕ)) → AllByRecursion (AllByRecursion (λ c. c ≡ 10 → ⊥)) ls → AllByRecursion (λ t. AllByRecursion (λ c. c ≡ 10 → ⊥) t.text) (lay_out p ls)
+single_laid : (p : Place) (ls : List (List ℕ)) → AllByRecursion (AllByRecursion (λ c. c ≡ 10 → ⊥)) ls → AllByRecursion (λ t. AllByRecursion (λ c. c ≡ 10 → ⊥) t.line) (lay_out p ls)
 single_laid p [] h = tt
 single_laid p (l ∷ ls) h = (h.0, single_laid (past p l) ls h.1)
 
 -- a line's place counts the lines and the bytes before it
 place_laid : (p : Place) (ls : List (List ℕ)) (before after : List TextAt) (t : TextAt) → lay_out p ls ≡ before ++ t ∷ after → (t.place.line ≡ p.line + length before) × (t.place.offset ≡ p.offset + length (rejoined (texts before)))
-place_laid p [] [] after t e = let z : ◌≡◌ {A = ℕ} 0 1 = cc in absurd (omega arith)
-place_laid p [] (u ∷ before) after t e = let z : ◌≡◌ {A = ℕ} 0 1 = cc in absurd (omega arith)
+place_laid p [] [] after t e = cc
+place_laid p [] (u ∷ before) after t e = cc
 place_laid p (l ∷ ls) [] after t e = let same : p ≡ t.place = cc in (omega (arith, ap (λ q. q.line) same), omega (arith, ap (λ q. q.offset) same))
 place_laid p (l ∷ ls) (u ∷ before) after t e =
-    let size : length l ≡ length u.text = cc in
+    let size : length l ≡ length u.line = cc in
     let more = place_laid (past p l) ls before after t (cc) in
     (omega (arith, more.0), simp length-append (omega (arith, more.1)))
 
-split : (before after : List TextAt) (t : TextAt) → rejoined (texts (before ++ t ∷ after)) ≡ rejoined (texts before) ++ (t.text ++ (10 ∷ rejoined (texts after)))
-split [] after t = append_assoc t.text (10 ∷ []) (rejoined (texts after))
+split : (before after : List TextAt) (t : TextAt) → rejoined (texts (before ++ t ∷ after)) ≡ rejoined (texts before) ++ (t.line ++ (10 ∷ rejoined (texts after)))
+split [] after t = append_assoc t.line (10 ∷ []) (rejoined (texts after))
 split (u ∷ before) after t =
-    ap (λ bs. (u.text ++ 10 ∷ []) ++ bs) (split before after t)
-    ∙ sym (append_assoc (u.text ++ 10 ∷ []) (rejoined (texts before)) (t.text ++ (10 ∷ rejoined (texts after))))
+    ap (λ bs. (u.line ++ 10 ∷ []) ++ bs) (split before after t)
+    ∙ sym (append_assoc (u.line ++ 10 ∷ []) (rejoined (texts before)) (t.line ++ (10 ∷ rejoined (texts after))))
 
 -- of a list in two parts and more, the second part, read off the list or off the list with one byte more
 middle : (bs end front mid back : List ℕ) → bs ++ end ≡ front ++ (mid ++ (10 ∷ back)) → length end ≤ 1 → take (length mid) (drop (length front) bs) ≡ mid
@@ -121,7 +117,7 @@ stands_in bs before after t e =
     record {
       line = omega (arith, place.0);
       offset = sym offset;
-      text = subst (λ o. take (length t.text) (drop o bs) ≡ t.text) offset (middle bs more.0 (rejoined (texts before)) t.text (rejoined (texts after)) parts (⊎_elim (λ none. omega (arith, ap length none)) (λ newline. omega (arith, ap length newline)) more.1));
+      text = subst (λ o. take (length t.line) (drop o bs) ≡ t.line) offset (middle bs more.0 (rejoined (texts before)) t.line (rejoined (texts after)) parts (⊎_elim (λ none. omega (arith, ap length none)) (λ newline. omega (arith, ap length newline)) more.1));
     }
 
 pub cut : (bs : List ℕ) → Cut bs (laid bs)

@@ -1,9 +1,10 @@
 -- The last line of a list, and where it stands.
-use Rattle.std.proofs.Common.{◌≡◌, ℕ, ◌+◌, ◌-◌, ◌<◌, ◌≤◌, Bool, true, false, cond, eqb, List, [], ◌∷◌, ◌++◌, length, get_or, take, drop, Some, None, Option, sym, refl, ap, ◌∙◌, subst, ⊎_elim, append_assoc, arith, length-append, length-drop, take-append-drop}
+use Rattle.std.proofs.Common.{◌≡◌, ℕ, ◌+◌, ◌-◌, ◌<◌, ◌≤◌, Bool, cond, eqb, List, [], ◌∷◌, ◌++◌, length, get_or, take, drop, Some, None, Option, sym, refl, ap, ◌∙◌, subst, ⊎_elim, append_assoc, arith, length-append, length-drop, take-append-drop}
 use Rattle.std.specs.List.{last_or, AllByRecursion}
 use Rattle.std.proofs.ByRecursion.{All-from_get_or}
 use Rattle.std.proofs.lemmas.List.{length-take, length-take-le, get_or-take, get_or-drop, drop-drop, drop_more, drop_all, take_all, take_more}
-use Rattle.std.proofs.lemmas.Bool.{ne_eqb, cases_lt}
+use Rattle.std.proofs.lemmas.Bool.{cases_lt}
+use Rattle.std.proofs.lemmas.Bool.Decides.{nat_tests}
 use Rattle.fault.specs.declared.Place.{Place}
 use Rattle.setup.specs.Cutting.{rejoined}
 use Rattle.setup.specs.Lines.{onto, lines, TextAt, past, lay_out, laid}
@@ -20,14 +21,13 @@ NoNewline l = AllByRecursion (λ b. b ≡ 10 → ⊥) l
 pub line_first : (l bs : List ℕ) → NoNewline l → lines (l ++ 10 ∷ bs) ≡ l ∷ lines bs
 line_first [] bs h = refl
 line_first (b ∷ l) bs h =
-    let other = ne_eqb b 10 h.0 in
-    rw (other, line_first l bs h.1)
+    let more = line_first l bs h.1 in
+    let other = h.0 in
+    grind (arith, nat_tests)
 
 pub line_last : (b : ℕ) (l : List ℕ) → NoNewline (b ∷ l) → lines (b ∷ l) ≡ (b ∷ l) ∷ []
-line_last b [] h = let other = ne_eqb b 10 h.0 in rw other
-line_last b (d ∷ l) h =
-    let other = ne_eqb b 10 h.0 in
-    rw (other, line_last d l h.1)
+line_last b [] h = grind (arith, nat_tests)
+line_last b (d ∷ l) h = let more = line_last d l h.1 in grind (arith, nat_tests)
 
 -- where the line after ls begins, if ls begin at p
 unfoldable pub past_all : Place → List (List ℕ) → Place
@@ -39,10 +39,10 @@ unfolding past_all
 past_offset p [] = omega arith
 past_offset p (l ∷ ls) = simp length-append (omega (arith, past_offset (past p l) ls))
 
-pub last_line : (p : Place) (ls : List (List ℕ)) (l : List ℕ) (o : Option TextAt) → last_or o (lay_out p (ls ++ l ∷ [])) ≡ Some (record { place = past_all p ls; text = l })
+pub last_line : (p : Place) (ls : List (List ℕ)) (l : List ℕ) (o : Option TextAt) → last_or o (lay_out p (ls ++ l ∷ [])) ≡ Some (record { place = past_all p ls; line = l })
 unfolding past_all
 last_line p [] l o = refl
-last_line p (k ∷ ls) l o = last_line (past p k) ls l (Some (record { place = p; text = k }))
+last_line p (k ∷ ls) l o = last_line (past p k) ls l (Some (record { place = p; line = k }))
 
 past_line : (p : Place) (ls : List (List ℕ)) → (past_all p ls).line ≡ p.line + length ls
 unfolding past_all
@@ -50,8 +50,7 @@ past_line p [] = omega arith
 past_line p (l ∷ ls) = omega (arith, past_line (past p l) ls)
 
 onto_front : (b : ℕ) (ls ks : List (List ℕ)) → 0 < length ls → onto b (ls ++ ks) ≡ onto b ls ++ ks
-onto_front b [] ks some = absurd (omega arith)
-onto_front b (l ∷ ls) ks some = refl
+onto_front b ls ks some = grind arith
 
 -- a newline cuts the lines before it from those after
 lines_cut : (front bs : List ℕ) → lines (front ++ 10 ∷ bs) ≡ lines (front ++ 10 ∷ []) ++ lines bs
@@ -61,8 +60,7 @@ lines_cut (b ∷ front) bs =
     ∙ split (eqb b 10)
   where
     split : (t : Bool) → cond t ([] ∷ (lines (front ++ 10 ∷ []) ++ lines bs)) (onto b (lines (front ++ 10 ∷ []) ++ lines bs)) ≡ cond t ([] ∷ lines (front ++ 10 ∷ [])) (onto b (lines (front ++ 10 ∷ []))) ++ lines bs
-    split true = refl
-    split false = onto_front b (lines (front ++ 10 ∷ [])) (lines bs) (some_lines (front ++ 10 ∷ []) (simp length-append (omega arith)))
+    split t = let front = onto_front b (lines (front ++ 10 ∷ [])) (lines bs) (some_lines (front ++ 10 ∷ []) (simp length-append (omega arith))) in grind arith
 
 line_alone : (l : List ℕ) → 0 < length l → NoNewline l → lines l ≡ l ∷ []
 line_alone [] some h = absurd (omega arith)
@@ -77,7 +75,7 @@ pub record LastLine (bs : List ℕ) (start end : ℕ) : Type 0 where
 
 module _ (bs : List ℕ) (start end : ℕ) (last : LastLine bs start end) (some : 0 < length bs) where
   inside : end ≤ length bs
-  inside = ⊎_elim (λ newline. omega (arith, newline.0)) (λ none. omega (arith, none.0)) last.ends
+  inside = let ends = last.ends in grind arith
 
   text_plain : NoNewline (take (end - start) (drop start bs))
   text_plain =
@@ -122,7 +120,7 @@ module _ (bs : List ℕ) (start end : ℕ) (last : LastLine bs start end) (some 
       ))
       (cases_lt 0 start)
 
-  pub last_is : last_or None (laid bs) ≡ Some (record { place = last_place bs start; text = take (end - start) (drop start bs) })
+  pub last_is : last_or None (laid bs) ≡ Some (record { place = last_place bs start; line = take (end - start) (drop start bs) })
   last_is =
       let first : Place = record { line = 1; offset = 0 } in
       let front = lines (take start bs) in
@@ -130,12 +128,13 @@ module _ (bs : List ℕ) (start end : ℕ) (last : LastLine bs start end) (some 
       let offset : (past_all first front).offset ≡ start = omega (arith, past_offset first front, ap length before.0, length-take-le start bs (omega (arith, inside, last.within))) in
       ap (λ ls. last_or None (lay_out first ls)) before.1
       ∙ last_line first front (take (end - start) (drop start bs)) None
-      ∙ (λ i. Some (record { place = record { line = line i; offset = offset i }; text = take (end - start) (drop start bs) }))
+      ∙ (λ i. Some (record { place = record { line = line i; offset = offset i }; line = take (end - start) (drop start bs) }))
 
 none_last : (start end : ℕ) → LastLine [] start end → (start ≡ 0) × (end ≡ 0)
 none_last start end last =
-    let none : end ≡ 0 = ⊎_elim (λ newline. absurd (omega (arith, newline.0))) (λ none. none.0) last.ends in
-    (omega (arith, last.within), none)
+    let ends = last.ends in
+    let within = last.within in
+    grind arith
 
 -- the fault of the last line, by where it stands
 pub trailer_at : (bs : List ℕ) (start end : ℕ) → LastLine bs start end → trailer_fault (last_of (laid bs)) ≡ count_fault (last_place bs start) (given (form_of (take (end - start) (drop start bs))) trailer_count)

@@ -1,14 +1,11 @@
 -- One line of a list, and the lines after it.
-use Rattle.std.proofs.Common.{◌≡◌, ℕ, zero, suc, ◌+◌, ◌<◌, ◌≤◌, Bool, true, false, cond, eqb, List, [], ◌∷◌, length, get_or, take, drop, Some, Result, sym, refl, ap, ◌∙◌, ⊎_elim, arith, length-drop}
-use Rattle.fault.specs.declared.Fault.{Fault}
+use Rattle.std.proofs.Common.{◌≡◌, ℕ, zero, suc, ◌+◌, ◌<◌, ◌≤◌, Bool, true, false, cond, eqb, List, [], ◌∷◌, length, get_or, take, drop, sym, refl, ap, ◌∙◌, ⊎_elim, arith, length-drop}
 use Rattle.fault.specs.declared.Place.{Place}
-use Rattle.form.specs.Forms.{form_of}
-use Rattle.form.proofs.Options.{none_some}
 use Rattle.std.proofs.lemmas.List.{drop-drop, at_drop_all, length-take-le}
 use Rattle.std.proofs.lemmas.Bool.{cases_lt}
 use Rattle.std.proofs.lemmas.Bool.Decides.{nat_tests}
 use Rattle.setup.specs.Lines.{onto, lines, TextAt, past, lay_out, laid}
-use Rattle.setup.specs.Reading.{SaidAt, none, first, rest, place_after, entry_from, entries}
+use Rattle.setup.specs.Reading.{none, place_after}
 
 -- how many bytes stand before the first newline
 abbrev up_to : List ℕ → ℕ
@@ -44,7 +41,7 @@ none_ahead p list h = at_drop_all (λ bs. lay_out p (lines bs)) list p.offset h
 some_ahead : (p : Place) (list : List ℕ) → p.offset < length list → none (lay_out p (lines (drop p.offset list))) ≡ false
 some_ahead p list h = ap (λ ls. none (lay_out p ls)) (lines_more (drop p.offset list) (simp length-drop (omega arith)))
 
-pub one_ahead : (p : Place) (list : List ℕ) (n : ℕ) → p.offset < length list → Line (drop p.offset list) n → lay_out p (lines (drop p.offset list)) ≡ record { place = p; text = take n (drop p.offset list) } ∷ lay_out (place_after p (p.offset + n) (length list)) (lines (drop (place_after p (p.offset + n) (length list)).offset list))
+pub one_ahead : (p : Place) (list : List ℕ) (n : ℕ) → p.offset < length list → Line (drop p.offset list) n → lay_out p (lines (drop p.offset list)) ≡ record { place = p; line = take n (drop p.offset list) } ∷ lay_out (place_after p (p.offset + n) (length list)) (lines (drop (place_after p (p.offset + n) (length list)).offset list))
 one_ahead p list n more line =
     let bs = drop p.offset list in
     let some : 0 < length bs = simp length-drop (omega arith) in
@@ -59,32 +56,22 @@ one_ahead p list n more line =
     (λ over. let e : next ≡ p.offset + n = grind (arith, nat_tests) in none_ahead (at (p.offset + n + 1)) list (omega arith) ∙ sym (none_ahead (at next) list (omega arith)))
     (cases_lt (p.offset + n) (length list)) in
     ap (lay_out p) cut
-    ∙ (λ i. record { place = p; text = take n bs } ∷ lay_out (at (p.offset + size i + 1)) (lines (further i)))
-    ∙ ap (λ ts. record { place = p; text = take n bs } ∷ ts) onward
+    ∙ (λ i. record { place = p; line = take n bs } ∷ lay_out (at (p.offset + size i + 1)) (lines (further i)))
+    ∙ ap (λ ts. record { place = p; line = take n bs } ∷ ts) onward
 
 pub none_left : (p : Place) (list : List ℕ) → p.offset ≤ length list → eqb p.offset (length list) ≡ none (lay_out p (lines (drop p.offset list)))
 none_left p list h =
-    ⊎_elim
-    (λ inside. let some = some_ahead p list inside in grind (arith, nat_tests))
-    (λ over. let empty = none_ahead p list over in grind (arith, nat_tests, ap none empty))
-    (cases_lt p.offset (length list))
+    let over : length list ≤ p.offset → lay_out p (lines (drop p.offset list)) ≡ [] = none_ahead p list in
+    let inside : p.offset < length list → none (lay_out p (lines (drop p.offset list))) ≡ false = some_ahead p list in
+    grind (arith, nat_tests)
 
--- one step along the lines ahead yields what the first of them says
-pub one_entry : (was left : List TextAt) (x : TextAt) (last : Bool) (r : Result SaidAt Fault) → first was ≡ Some x → left ≡ rest was → last ≡ none left → r ≡ entry_from x.place last (form_of x.text) → (Some r ≡ first (entries was)) × (length left < length was)
-one_entry [] left x last r e n l is = none_some e
-one_entry (y ∷ ys) left x last r e n l is =
-    let same : x ≡ y = cc in
-    let ended : last ≡ none ys = l ∙ ap none n in
-    (ap Some (is ∙ (λ i. entry_from (same i).place (ended i) (form_of (same i).text))), omega (arith, ap length n))
+-- a reader that has lines ahead is not at the end of its list
+pub some_left : (p : Place) (list : List ℕ) (ahead : List TextAt) → lay_out p (lines (drop p.offset list)) ≡ ahead → none ahead ≡ false → p.offset < length list
+some_left p list ahead view some = let over : length list ≤ p.offset → lay_out p (lines (drop p.offset list)) ≡ [] = none_ahead p list in grind arith
 
 lines_few : (bs : List ℕ) → length (lines bs) ≤ length bs
 lines_few [] = omega arith
-lines_few (b ∷ bs) = few (eqb b 10) (lines bs) (lines_few bs)
-  where
-    few : (t : Bool) (ls : List (List ℕ)) → length ls ≤ length bs → length (cond t ([] ∷ ls) (onto b ls)) ≤ suc (length bs)
-    few true ls h = omega arith
-    few false [] h = omega arith
-    few false (l ∷ ls) h = omega arith
+lines_few (b ∷ bs) = let few = lines_few bs in grind (arith, nat_tests)
 
 pub length-laid : (p : Place) (ls : List (List ℕ)) → length (lay_out p ls) ≡ length ls
 length-laid p [] = refl

@@ -1,56 +1,47 @@
 -- A list is found good exactly when it is well made.
-use Rattle.std.proofs.Common.{◌≡◌, ℕ, ◌+◌, ◌/◌, ◌%◌, ◌<◌, ◌≤◌, Bool, true, false, cond, not, ◌&&◌, eqb, ltb, ◌⊎◌, List, [], ◌∷◌, ◌++◌, map, length, is_some, is_ok, Some, None, Ok, Err, Decides, Option, Result, sym, refl, ap, ◌∙◌, inl, inr, ⊎_elim, append_assoc, append-nil, zero-add, arith, lit<, length-append}
+use Rattle.std.proofs.Common.{◌≡◌, ℕ, ◌<◌, ◌≤◌, Bool, true, false, cond, not, ◌&&◌, eqb, ltb, ◌⊎◌, List, [], ◌∷◌, ◌++◌, map, length, is_some, is_ok, Some, None, Decides, Option, Result, sym, refl, ap, ◌∙◌, inl, inr, ⊎_elim, append_assoc, append-nil, zero-add, arith, rules, length-append}
 use Rattle.std.specs.List.{last_or, AllByRecursion}
 use Rattle.std.specs.Option.{option_or}
 use Rattle.std.proofs.ByRecursion.{All-weaker}
 use Rattle.std.proofs.lemmas.List.{append_cancel_right}
-use Rattle.std.proofs.lemmas.Bool.{true≢false, eq-eqb, le-ltb, ltb-false, cond-true, cond-false}
+use Rattle.std.proofs.lemmas.Option.{same_Some}
+use Rattle.std.proofs.lemmas.Bool.{eq-eqb, le-ltb, cond-true, cond-false}
 use Rattle.std.proofs.lemmas.Bool.Decides.{nat_tests}
-use Rattle.fault.specs.Faults.{fault_at, unplaced}
-use Rattle.fault.specs.declared.Cause.TheVariants.{ListTooLong, NoForm}
+use Rattle.fault.specs.Faults.{unplaced}
+use Rattle.fault.specs.declared.Cause.TheVariants.{ListTooLong}
 use Rattle.fault.specs.declared.Fault.{Fault}
 use Rattle.fault.specs.declared.Place.{Place}
 use Rattle.form.specs.Forms.{Said, write, fans, remark, trailer, trailer_count, given, form_of}
 use Rattle.form.specs.Spelling.{hex_of, spelled, Sayable}
-use Rattle.form.proofs.Options.{none_some, some_is}
 use Rattle.form.proofs.Spelled.{spelled_back, understood}
 use Rattle.setup.specs.Cutting.{Unended, rejoined}
 use Rattle.setup.specs.Lines.{lines, TextAt, past, lay_out, laid}
 use Rattle.setup.specs.Reading.{SaidAt, entry_from, entries}
-use Rattle.setup.specs.Verdict.{last_of, count_fault, trailer_fault, length_fault, ends_fault, first_in, first_fault, verdict, Newline}
+use Rattle.setup.specs.Verdict.{last_of, count_fault, trailer_fault, length_fault, first_in, first_fault, verdict, Newline}
 use Rattle.setup.specs.WellMade.{Plain, written, WellMade}
 use Rattle.setup.proofs.Cuts.{over, cut}
 use Rattle.setup.proofs.Last.{NoNewline, line_first, line_last, past_all, past_offset, last_line}
-
-apart : (b : ℕ) → 10 < b → b ≡ 10 → ⊥
-apart b h e = omega arith
-
-space : ◌≡◌ {A = ℕ} 32 10 → ⊥
-space = apart 32 (lit< tt)
 
 digit : (n : ℕ) → hex_of n ≡ 10 → ⊥
 digit n e = grind (arith, nat_tests)
 
 spelled_plain : (s : Said) → Sayable s → NoNewline (spelled s)
-spelled_plain (write a r v) h = (apart 119 (lit< tt), (space, (digit (a / 16), (digit (a % 16), (space, (digit (r / 16), (digit (r % 16), (space, (digit (v / 16), (digit (v % 16), tt))))))))))
-spelled_plain (fans a n) h = (apart 102 (lit< tt), (space, (digit (a / 16), (digit (a % 16), (space, (apart (48 + n) (omega arith), tt))))))
-spelled_plain (remark text) h = (apart 35 (lit< tt), (space, All-weaker (λ b. (32 ≤ b) × (b ≤ 126)) (λ b. b ≡ 10 → ⊥) (λ b k. apart b (omega (arith, k.0))) text h.1))
-spelled_plain (trailer n) h = (apart 116 (lit< tt), (space, (digit (n / 256 / 16), (digit (n / 256 % 16), (digit (n % 256 / 16), (digit (n % 256 % 16), tt))))))
+spelled_plain (write a r v) h = search (rules, digit)
+spelled_plain (fans a n) h = search (rules, digit)
+spelled_plain (remark text) h = let plain = All-weaker (λ b. (32 ≤ b) × (b ≤ 126)) (λ b. b ≡ 10 → ⊥) (λ b k e. omega (arith, k.0)) text h.1 in search rules
+spelled_plain (trailer n) h = search (rules, digit)
 
 rejoined_spelled : (ss : List Said) → rejoined (map spelled ss) ≡ written ss
 rejoined_spelled [] = refl
-rejoined_spelled (s ∷ ss) = ap (λ bs. (spelled s ++ 10 ∷ []) ++ bs) (rejoined_spelled ss)
+rejoined_spelled (s ∷ ss) = rw (rejoined_spelled ss)
 
 rejoined_more : (ss : List Said) (l : List ℕ) → rejoined (map spelled ss ++ l ∷ []) ≡ written ss ++ (l ++ 10 ∷ [])
-rejoined_more [] l = append-nil (l ++ 10 ∷ [])
-rejoined_more (s ∷ ss) l = ap (λ bs. (spelled s ++ 10 ∷ []) ++ bs) (rejoined_more ss l) ∙ sym (append_assoc (spelled s ++ 10 ∷ []) (written ss) (l ++ 10 ∷ []))
+rejoined_more [] l = simp append-nil
+rejoined_more (s ∷ ss) l = simp (append_assoc, rejoined_more ss l)
 
 lines_written : (ss : List Said) (bs : List ℕ) → AllByRecursion Plain ss → lines (written ss ++ bs) ≡ map spelled ss ++ lines bs
 lines_written [] bs h = refl
-lines_written (s ∷ ss) bs h =
-    ap lines (append_assoc (spelled s ++ 10 ∷ []) (written ss) bs ∙ append_assoc (spelled s) (10 ∷ []) (written ss ++ bs))
-    ∙ line_first (spelled s) (written ss ++ bs) (spelled_plain s h.0.0)
-    ∙ ap (λ ls. spelled s ∷ ls) (lines_written ss bs h.1)
+lines_written (s ∷ ss) bs h = simp append_assoc (rw (line_first (spelled s) (written ss ++ bs) (spelled_plain s h.0.0)) (ap (λ ls. spelled s ∷ ls) (lines_written ss bs h.1)))
 
 good_lines : (p : Place) (ss : List Said) (n : ℕ) → AllByRecursion Plain ss → n < 65536 → first_in (entries (lay_out p (map spelled ss ++ spelled (trailer n) ∷ []))) ≡ None
 good_lines p [] n h few = let back = spelled_back (trailer n) few in rw back
@@ -88,65 +79,45 @@ good bs w =
     let clean = ap (λ ls. first_in (entries (lay_out first ls))) cut ∙ good_lines first w.said n w.plain few in
     λ i. option_or (option_or (short i) (counted i)) (clean i)
 
-or_none : {A : Type 0} (o p : Option A) → option_or o p ≡ None → (o ≡ None) × (p ≡ None)
-or_none None p e = (refl, e)
-or_none (Some x) p e = none_some (sym e)
-
-cond_none : {A : Type 0} (t : Bool) (x : A) (o : Option A) → cond t (Some x) o ≡ None → (t ≡ false) × (o ≡ None)
-cond_none true x o e = none_some (sym e)
-cond_none false x o e = (refl, e)
-
 count_none : (p : Place) (m : Option ℕ) → count_fault p m ≡ None → (n : ℕ) × (m ≡ Some n) × (n ≡ p.offset)
-count_none p None e = none_some (sym e)
-count_none p (Some n) e = (n, refl, grind (arith, nat_tests))
+count_none p m e = grind (arith, nat_tests)
 
-trailer_none : (o : Option TextAt) → trailer_fault o ≡ None → (t : TextAt) × (o ≡ Some t) × ((n : ℕ) × (given (form_of t.text) trailer_count ≡ Some n) × (n ≡ t.place.offset))
-trailer_none None e = none_some (sym e)
-trailer_none (Some t) e = (t, refl, count_none t.place (given (form_of t.text) trailer_count) e)
-
-entry_some : (p : Place) (t : Bool) (s : Said) (es : List (Result SaidAt Fault)) → first_in (cond t (Err (fault_at NoForm p)) (Ok (record { place = p; said = s })) ∷ es) ≡ None → (t ≡ false) × (first_in es ≡ None)
-entry_some p true s es e = none_some (sym e)
-entry_some p false s es e = (refl, e)
+trailer_none : (o : Option TextAt) → trailer_fault o ≡ None → (t : TextAt) × (o ≡ Some t) × ((n : ℕ) × (given (form_of t.line) trailer_count ≡ Some n) × (n ≡ t.place.offset))
+trailer_none None e = cc
+trailer_none (Some t) e = (t, refl, count_none t.place (given (form_of t.line) trailer_count) e)
 
 entry_none : (p : Place) (last : Bool) (f : Option Said) (es : List (Result SaidAt Fault)) → first_in (entry_from p last f ∷ es) ≡ None → (s : Said) × (f ≡ Some s) × ((is_some (trailer_count s) && not last) ≡ false) × (first_in es ≡ None)
-entry_none p last None es e = none_some (sym e)
-entry_none p last (Some s) es e =
-    let h = entry_some p (is_some (trailer_count s) && not last) s es e in
-    (s, refl, h.0, h.1)
+entry_none p last f es e = grind arith
 
 trailer_is : (s : Said) (n : ℕ) → trailer_count s ≡ Some n → s ≡ trailer n
-trailer_is (write a r v) n e = none_some e
-trailer_is (fans a k) n e = none_some e
-trailer_is (remark text) n e = none_some e
-trailer_is (trailer k) n e = let same : k ≡ n = cc in ap trailer same
+trailer_is s n e = grind arith
 
 not_trailer : (m : Option ℕ) → (is_some m && true) ≡ false → m ≡ None
-not_trailer None e = refl
-not_trailer (Some n) e = absurd (true≢false e)
+not_trailer m e = grind arith
 
 -- lines without a fault spell something, and end with the trailer
-spell : (p : Place) (l : List ℕ) (ls : List (List ℕ)) (o : Option TextAt) (t : TextAt) (n : ℕ) → first_in (entries (lay_out p (l ∷ ls))) ≡ None → last_or o (lay_out p (l ∷ ls)) ≡ Some t → given (form_of t.text) trailer_count ≡ Some n → (ss : List Said) × AllByRecursion Plain ss × (l ∷ ls ≡ map spelled ss ++ spelled (trailer n) ∷ [])
+spell : (p : Place) (l : List ℕ) (ls : List (List ℕ)) (o : Option TextAt) (t : TextAt) (n : ℕ) → first_in (entries (lay_out p (l ∷ ls))) ≡ None → last_or o (lay_out p (l ∷ ls)) ≡ Some t → given (form_of t.line) trailer_count ≡ Some n → (ss : List Said) × AllByRecursion Plain ss × (l ∷ ls ≡ map spelled ss ++ spelled (trailer n) ∷ [])
 spell p l [] o t n e last count =
     let one = entry_none p true (form_of l) [] e in
-    let same : l ≡ t.text = cc in
+    let same : l ≡ t.line = cc in
     let counted : trailer_count one.0 ≡ Some n = sym (ap (λ f. given f trailer_count) one.1) ∙ ap (λ k. given (form_of k) trailer_count) same ∙ count in
     let whole = ((understood l).sound one.0 one.1).whole in
     ([], tt, ap (λ k. k ∷ []) (whole ∙ ap spelled (trailer_is one.0 n counted)))
 spell p l (m ∷ ls) o t n e last count =
     let one = entry_none p false (form_of l) (entries (lay_out (past p l) (m ∷ ls))) e in
-    let more = spell (past p l) m ls (Some (record { place = p; text = l })) t n one.3 last count in
+    let more = spell (past p l) m ls (Some (record { place = p; line = l })) t n one.3 last count in
     let spells = (understood l).sound one.0 one.1 in
     (one.0 ∷ more.0, ((spells.fields, not_trailer _ one.2), more.1), λ i. spells.whole i ∷ more.2 i)
 
-made_of : (bs : List ℕ) (ls : List (List ℕ)) → lines bs ≡ ls → length bs ≤ 24576 → (t : TextAt) (n : ℕ) → first_in (entries (lay_out (record { line = 1; offset = 0 }) ls)) ≡ None → last_of (lay_out (record { line = 1; offset = 0 }) ls) ≡ Some t → given (form_of t.text) trailer_count ≡ Some n → n ≡ t.place.offset → WellMade bs
-made_of bs [] cut short t n clean last count here = none_some last
+made_of : (bs : List ℕ) (ls : List (List ℕ)) → lines bs ≡ ls → length bs ≤ 24576 → (t : TextAt) (n : ℕ) → first_in (entries (lay_out (record { line = 1; offset = 0 }) ls)) ≡ None → last_of (lay_out (record { line = 1; offset = 0 }) ls) ≡ Some t → given (form_of t.line) trailer_count ≡ Some n → n ≡ t.place.offset → WellMade bs
+made_of bs [] cut short t n clean last count here = cc
 made_of bs (l ∷ ls) cut short t n clean last count here =
     let first : Place = record { line = 1; offset = 0 } in
     let told = spell first l ls None t n clean last count in
     let ss = told.0 in
     let whole = cut ∙ told.2 in
-    let same : Some (record { place = past_all first (map spelled ss); text = spelled (trailer n) }) ≡ Some t = sym (last_line first (map spelled ss) (spelled (trailer n)) None) ∙ ap (λ k. last_or None (lay_out first k)) (sym told.2) ∙ last in
-    let counts : n ≡ length (written ss) = here ∙ ap (λ u. u.place.offset) (sym (some_is _ _ same)) ∙ trailer_offset ss in
+    let same : Some (record { place = past_all first (map spelled ss); line = spelled (trailer n) }) ≡ Some t = sym (last_line first (map spelled ss) (spelled (trailer n)) None) ∙ ap (λ k. last_or None (lay_out first k)) (sym told.2) ∙ last in
+    let counts : n ≡ length (written ss) = here ∙ ap (λ u. u.place.offset) (sym (same_Some _ _ same)) ∙ trailer_offset ss in
     let more = over bs in
     let trailing = spelled (trailer (length (written ss))) in
     let joined : bs ++ more.0 ≡ written ss ++ (trailing ++ 10 ∷ []) =
@@ -158,15 +129,14 @@ made_of bs (l ∷ ls) cut short t n clean last count here =
 
 pub made : (bs : List ℕ) → first_fault bs ≡ None → WellMade bs
 made bs e =
-    let parts = or_none (ends_fault bs) (first_in (entries (laid bs))) e in
-    let ends = or_none (length_fault bs) (trailer_fault (last_of (laid bs))) parts.0 in
-    let short = cond_none (ltb 24576 (length bs)) (unplaced ListTooLong) None ends.0 in
-    let last = trailer_none (last_of (laid bs)) ends.1 in
-    made_of bs (lines bs) refl (ltb-false 24576 (length bs) short.0) last.0 last.2.0 parts.1 last.1 last.2.1 last.2.2
+    let short : length bs ≤ 24576 = grind (arith, nat_tests) in
+    let clean : first_in (entries (laid bs)) ≡ None = grind arith in
+    let counted : trailer_fault (last_of (laid bs)) ≡ None = grind arith in
+    let last = trailer_none (last_of (laid bs)) counted in
+    made_of bs (lines bs) refl short last.0 last.2.0 clean last.1 last.2.1 last.2.2
 
 ok_none : (o : Option Fault) → is_ok (verdict o) ≡ true → o ≡ None
-ok_none None e = refl
-ok_none (Some f) e = absurd (true≢false (sym e))
+ok_none o e = grind arith
 
 -- a missing last newline decides nothing, unless the list is as long as can be
 newline_verdict : (bs : List ℕ) → Unended bs → (length bs ≡ 24576 → ⊥) → first_fault (bs ++ 10 ∷ []) ≡ first_fault bs

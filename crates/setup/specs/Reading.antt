@@ -1,14 +1,15 @@
 -- What is ahead of a reader, and what its steps yield.
-use Rattle.std.specs.Prelude.{◌≡◌, ℕ, ◌+◌, Bool, true, false, cond, not, ◌&&◌, List, [], ◌∷◌, drop, is_some, Some, None, Ok, Err, Option, Result, nat_lt}
+use Rattle.std.specs.Prelude.{◌≡◌, ℕ, ◌+◌, Bool, true, false, cond, not, ◌&&◌, ◌≤◌, List, [], ◌∷◌, length, drop, is_some, Some, None, Ok, Err, Option, Result, nat_lt}
+use Rattle.std.specs.Borrow.{Bor}
 use Rattle.std.specs.Option.{option_map}
 use Rattle.fault.specs.Faults.{fault_at}
 use Rattle.fault.specs.declared.Cause.TheVariants.{NoForm}
 use Rattle.fault.specs.declared.Fault.{Fault}
 use Rattle.fault.specs.declared.Place.{Place}
 use Rattle.form.specs.Forms.{Said, meaning, trailer_count, form_of}
-use Rattle.setup.specs.declared.reader.Entry.{Entry}
-use Rattle.setup.specs.declared.reader.Reader.{Reader}
-use Rattle.setup.specs.declared.reader.Text.{Text}
+use Rattle.form.specs.declared.Line.{Line}
+use Rattle.setup.specs.declared.reader.Placed.{Placed}
+use Rattle.setup.specs.declared.reader.Reader.TheInside.{Inside}
 use Rattle.setup.specs.Lines.{TextAt, lines, lay_out}
 
 abbrev pub none : {A : Type 0} → List A → Bool
@@ -27,32 +28,40 @@ rest (x ∷ xs) = xs
 abbrev pub place_after : Place → ℕ → ℕ → Place
 place_after p end n = record { line = p.line + 1; offset = cond (nat_lt end n) (end + 1) end }
 
+-- a reader's next line begins within its list, and no more lines than bytes come before it
+pub record InList (s : Inside) : Type 0 where
+  pub counted : s.place.line ≤ s.place.offset + 1
+  pub within : s.place.offset ≤ length s.list.now
+
 -- the lines that a reader has yet to yield
-abbrev pub ahead : Reader → List TextAt
+abbrev pub ahead : Inside → List TextAt
 ahead s = lay_out s.place (lines (drop s.place.offset s.list.now))
 
-abbrev pub text_at : Text → TextAt
-text_at t = record { place = t.place; text = t.bytes.now }
+-- f of a line, at its place
+abbrev pub placed : {A B : Type 0} → (A → B) → Placed A → Placed B
+placed f p = record { place = p.place; line = f p.line }
+
+abbrev pub text_at : Placed (Bor (List ℕ)) → TextAt
+text_at t = placed (λ b. b.now) t
 
 -- what a line says, and where it stands
-pub record SaidAt : Type 0 where
-  pub place : Place
-  pub said : Said
+abbrev pub SaidAt : Type 0
+SaidAt = Placed Said
 
-abbrev pub said_at : Result Entry Fault → Result SaidAt Fault
-said_at (Ok e) = Ok (record { place = e.place; said = meaning e.line })
+abbrev pub said_at : Result (Placed Line) Fault → Result SaidAt Fault
+said_at (Ok e) = Ok (placed meaning e)
 said_at (Err f) = Err f
 
 -- what the line at p says, or that it has none of the four forms; a trailer that is not the last line counts as having none
 abbrev pub entry_from : Place → Bool → Option Said → Result SaidAt Fault
 entry_from p last None = Err (fault_at NoForm p)
-entry_from p last (Some s) = cond (is_some (trailer_count s) && not last) (Err (fault_at NoForm p)) (Ok (record { place = p; said = s }))
+entry_from p last (Some s) = cond (is_some (trailer_count s) && not last) (Err (fault_at NoForm p)) (Ok (record { place = p; line = s }))
 
 abbrev pub entries : List TextAt → List (Result SaidAt Fault)
 entries [] = []
-entries (t ∷ ts) = entry_from t.place (none ts) (form_of t.text) ∷ entries ts
+entries (t ∷ ts) = entry_from t.place (none ts) (form_of t.line) ∷ entries ts
 
--- a reader at s yields r, and is then at t
-pub record Yields (s : Reader) (r : Option (Result Entry Fault)) (t : Reader) : Type 0 where
-  pub entry : option_map said_at r ≡ first (entries (ahead s))
-  pub ahead : ahead t ≡ rest (ahead s)
+-- a reader with s ahead yields r, and then has t ahead
+pub record Yields (s : List TextAt) (r : Option (Result (Placed Line) Fault)) (t : List TextAt) : Type 0 where
+  pub entry : option_map said_at r ≡ first (entries s)
+  pub ahead : t ≡ rest s

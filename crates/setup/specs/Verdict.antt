@@ -22,7 +22,7 @@ count_fault p (Some count) = cond (count == p.offset) None (Some (fault_at Trail
 -- the last line is a trailer
 abbrev pub trailer_fault : Option TextAt → Option Fault
 trailer_fault None = Some (unplaced NoTrailer)
-trailer_fault (Some t) = count_fault t.place (given (form_of t.text) trailer_count)
+trailer_fault (Some t) = count_fault t.place (given (form_of t.line) trailer_count)
 
 -- a list has at most 24,576 bytes
 abbrev pub length_fault : List ℕ → Option Fault

@@ -22,11 +22,9 @@ pub const LONGEST: usize = 24_576;
 fn last_end(list: &[u8]) -> usize
     ensures { LastEnd list.now result }
 {
-    let len = list.len();
-    if len > 0 && list[len - 1] == b'\n' {
-        len - 1
-    } else {
-        len
+    match list {
+        [front @ .., b'\n'] => front.len(),
+        _ => list.len(),
     }
 }
 
@@ -37,22 +35,17 @@ fn line_start(list: &[u8], end: usize) -> usize
     ensures begins { 0 < result → slice_index list.now (result - 1) ≡ 10 }
     ensures single { (k : ℕ) → result ≤ k → k < end → slice_index list.now k ≢ 10 }
 {
-    let mut start = end;
-    while start > 0 && list[start - 1] != b'\n' {
-        start -= 1;
-    }
-    start
+    list[..end]
+        .iter()
+        .rposition(|b| *b == b'\n')
+        .map_or(0, |newline| newline + 1)
 }
 
+#[tactic(auto, using(crate::proofs::Lined::laid_few))]
 fn line_count(list: &[u8]) -> usize
     ensures { result ≡ length (laid list.now) }
 {
-    let mut lines = 0;
-    let mut reader = Reader::new(list);
-    while let Some(_) = reader.next_text() {
-        lines += 1;
-    }
-    lines
+    Reader::new(list).texts().count()
 }
 
 // The count of a line's trailer, if it is one.
@@ -88,9 +81,10 @@ fn check_length(list: &[u8]) -> Result<(), Fault>
     ensures { result ≡ verdict (length_fault list.now) }
 {
     if list.len() > LONGEST {
-        return Err(Cause::ListTooLong.unplaced());
+        Err(Cause::ListTooLong.unplaced())
+    } else {
+        Ok(())
     }
-    Ok(())
 }
 
 // The checks that come before any line: the list's length, and its trailer.
@@ -111,6 +105,7 @@ fn check_lines(list: &[u8]) -> Result<(), Fault>
     Ok(())
 }
 
+// Apart from `check_list`, whose relations are proved of this one equation.
 fn check_whole(list: &[u8]) -> Result<(), Fault>
     ensures { result ≡ verdict (first_fault list.now) }
 {

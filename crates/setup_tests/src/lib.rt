@@ -6,7 +6,7 @@ mod tests {
     use fault::{Cause, Fault, Place};
     use form::Line;
     use setup::check_list;
-    use setup::reader::{Entry, Reader};
+    use setup::reader::{Entry, Reader, Text};
     use std::alloc::{AllocError, Global};
     use std::test::Fail;
 
@@ -72,42 +72,50 @@ mod tests {
         b"\r",
     ];
 
-    // Whole lists, each with its fault.
-    const FAULTY: [(&[u8], Cause, usize, usize); 22] = [
-        (b"", Cause::NoTrailer, 0, 0),
-        (b"\n", Cause::NoTrailer, 0, 0),
-        (b"t", Cause::NoTrailer, 0, 0),
-        (b"t 000", Cause::NoTrailer, 0, 0),
-        (b"t 00000", Cause::NoTrailer, 0, 0),
-        (b"t  0000", Cause::NoTrailer, 0, 0),
-        (b"t\t0000", Cause::NoTrailer, 0, 0),
-        (b"t 0000\r\n", Cause::NoTrailer, 0, 0),
-        (b"# 345678\nt 000a", Cause::NoTrailer, 0, 0),
-        (b"w 28 60 A5\n", Cause::NoTrailer, 0, 0),
-        (b"w 28 60 A5\nt 000B\n\n", Cause::NoTrailer, 0, 0),
-        (b"x\nw 28 60 A5", Cause::NoTrailer, 0, 0),
-        (b"t 0001", Cause::TrailerCount, 1, 0),
-        (b"w 28 60 A5\nt 000A\n", Cause::TrailerCount, 2, 11),
-        (b"w 28 60 A5\nt 000C", Cause::TrailerCount, 2, 11),
-        (b"x\nt 0003", Cause::TrailerCount, 2, 2),
-        (b"\nt 0001", Cause::NoForm, 1, 0),
-        (b"x\nw\nt 0004", Cause::NoForm, 1, 0),
-        (b"# \n\xFF\nx\nt 0007", Cause::NoForm, 2, 3),
-        (b"t 0000\nt 0007\n", Cause::NoForm, 1, 0),
+    // Whole lists, each with its fault, and the number and offset of the line that has it.
+    const FAULTY: [(&[u8], Cause, Option<(usize, usize)>); 22] = [
+        (b"", Cause::NoTrailer, None),
+        (b"\n", Cause::NoTrailer, None),
+        (b"t", Cause::NoTrailer, None),
+        (b"t 000", Cause::NoTrailer, None),
+        (b"t 00000", Cause::NoTrailer, None),
+        (b"t  0000", Cause::NoTrailer, None),
+        (b"t\t0000", Cause::NoTrailer, None),
+        (b"t 0000\r\n", Cause::NoTrailer, None),
+        (b"# 345678\nt 000a", Cause::NoTrailer, None),
+        (b"w 28 60 A5\n", Cause::NoTrailer, None),
+        (b"w 28 60 A5\nt 000B\n\n", Cause::NoTrailer, None),
+        (b"x\nw 28 60 A5", Cause::NoTrailer, None),
+        (b"t 0001", Cause::TrailerCount, Some((1, 0))),
+        (b"w 28 60 A5\nt 000A\n", Cause::TrailerCount, Some((2, 11))),
+        (b"w 28 60 A5\nt 000C", Cause::TrailerCount, Some((2, 11))),
+        (b"x\nt 0003", Cause::TrailerCount, Some((2, 2))),
+        (b"\nt 0001", Cause::NoForm, Some((1, 0))),
+        (b"x\nw\nt 0004", Cause::NoForm, Some((1, 0))),
+        (b"# \n\xFF\nx\nt 0007", Cause::NoForm, Some((2, 3))),
+        (b"t 0000\nt 0007\n", Cause::NoForm, Some((1, 0))),
         (
             b"w 28 60 A5\nt 000B\nf 28 2\nt 0019\n",
             Cause::NoForm,
-            2,
-            11,
+            Some((2, 11)),
         ),
-        (b"f 28 2\n\nt 0008", Cause::NoForm, 2, 7),
+        (b"f 28 2\n\nt 0008", Cause::NoForm, Some((2, 7))),
     ];
 
-    fn refused(cause: Cause, line: usize, offset: usize) -> Result<(), Fault> {
-        Err(Fault {
-            cause,
+    // The second line of what `amid` makes has no form.
+    const FORMLESS_AMID: Result<(), Fault> = Err(Fault {
+        cause: Cause::NoForm,
+        place: Some(Place {
+            line: 2,
+            offset: 11,
+        }),
+    });
+
+    fn entry(line: usize, offset: usize, says: Line<'_>) -> Option<Result<Entry<'_>, Fault>> {
+        Some(Ok(Entry {
             place: Place { line, offset },
-        })
+            line: says,
+        }))
     }
 
     fn add_trailer(heap: Global, list: &mut Vec<u8>) -> Result<(), AllocError> {
@@ -157,17 +165,18 @@ mod tests {
     fn formless_lines_are_named(rt: HostRuntime) -> Result<(), Fail> {
         for line in FORMLESS {
             let mut list = amid(rt.alloc(), line)?;
-            assert_eq!(rt; check_list(&list), refused(Cause::NoForm, 2, 11));
+            assert_eq!(rt; check_list(&list), FORMLESS_AMID);
             list.push(b'\n')?;
-            assert_eq!(rt; check_list(&list), refused(Cause::NoForm, 2, 11));
+            assert_eq!(rt; check_list(&list), FORMLESS_AMID);
         }
         Ok(())
     }
 
     #[test]
     fn faults_come_in_order(rt: HostRuntime) {
-        for (list, cause, line, offset) in FAULTY {
-            assert_eq!(rt; check_list(list), refused(cause, line, offset));
+        for (list, cause, place) in FAULTY {
+            let place = place.map(|(line, offset)| Place { line, offset });
+            assert_eq!(rt; check_list(list), Err(Fault { cause, place }));
         }
     }
 
@@ -179,10 +188,7 @@ mod tests {
         }
         assert_eq!(rt; check_list(&amid(rt.alloc(), &line)?), Ok(()));
         line.push(b'r')?;
-        assert_eq!(rt;
-            check_list(&amid(rt.alloc(), &line)?),
-            refused(Cause::NoForm, 2, 11)
-        );
+        assert_eq!(rt; check_list(&amid(rt.alloc(), &line)?), FORMLESS_AMID);
         Ok(())
     }
 
@@ -192,7 +198,11 @@ mod tests {
         assert_eq!(rt; list.len(), 24_576);
         assert_eq!(rt; check_list(&list), Ok(()));
         list.push(b'\n')?;
-        assert_eq!(rt; check_list(&list), refused(Cause::ListTooLong, 0, 0));
+        let too_long = Fault {
+            cause: Cause::ListTooLong,
+            place: None,
+        };
+        assert_eq!(rt; check_list(&list), Err(too_long));
         let mut shorter = filled(rt.alloc(), 62)?;
         shorter.push(b'\n')?;
         assert_eq!(rt; shorter.len(), 24_576);
@@ -201,77 +211,37 @@ mod tests {
     }
 
     #[test]
-    fn entries_have_their_places(rt: HostRuntime) -> Result<(), Fail> {
+    fn entries_have_their_places(rt: HostRuntime) {
         let mut reader = Reader::new(b"# hello\nw 28 60 A5\nf 29 1\nt 001A");
-        let Some(
-            Ok(
-                Entry {
-                    place,
-                    line: Line::Remark(text),
-                },
-            ),
-        ) = reader.next()
-        else {
-            return Err(Fail::new("no remark"));
+        assert_eq!(rt; reader.next(), entry(1, 0, Line::Remark(b"hello")));
+        let write = Line::Write {
+            unit: 0x28,
+            register: 0x60,
+            byte: 0xa5,
         };
-        assert_eq!(rt; place, Place { line: 1, offset: 0 });
-        assert_eq!(rt; text, b"hello".as_slice());
-        let Some(
-            Ok(
-                Entry {
-                    place,
-                    line: Line::Write {
-                        unit,
-                        register,
-                        byte,
-                    },
-                },
-            ),
-        ) = reader.next()
-        else {
-            return Err(Fail::new("no write"));
+        assert_eq!(rt; reader.next(), entry(2, 8, write));
+        let fans = Line::Fans {
+            unit: 0x29,
+            count: 1,
         };
-        assert_eq!(rt; place, Place { line: 2, offset: 8 });
-        assert_eq!(rt; [unit, register, byte], [0x28, 0x60, 0xa5]);
-        let Some(
-            Ok(
-                Entry {
-                    place,
-                    line: Line::Fans { unit, count },
-                },
-            ),
-        ) = reader.next()
-        else {
-            return Err(Fail::new("no fan count"));
+        assert_eq!(rt; reader.next(), entry(3, 19, fans));
+        assert_eq!(rt; reader.next(), entry(4, 26, Line::Trailer(26)));
+        assert_eq!(rt; reader.next(), None);
+    }
+
+    #[test]
+    fn texts_have_their_places(rt: HostRuntime) {
+        let mut texts = Reader::new(b"# hello\nx").texts();
+        let remark = Text {
+            place: Place { line: 1, offset: 0 },
+            line: b"# hello",
         };
-        assert_eq!(rt;
-            place,
-            Place {
-                line: 3,
-                offset: 19,
-            }
-        );
-        assert_eq!(rt; [unit, count], [0x29, 1]);
-        let Some(
-            Ok(
-                Entry {
-                    place,
-                    line: Line::Trailer(count),
-                },
-            ),
-        ) = reader.next()
-        else {
-            return Err(Fail::new("no trailer"));
+        assert_eq!(rt; texts.next(), Some(remark));
+        let formless = Text {
+            place: Place { line: 2, offset: 8 },
+            line: b"x",
         };
-        assert_eq!(rt;
-            place,
-            Place {
-                line: 4,
-                offset: 26,
-            }
-        );
-        assert_eq!(rt; count, 26);
-        assert!(rt; reader.next().is_none());
-        Ok(())
+        assert_eq!(rt; texts.next(), Some(formless));
+        assert_eq!(rt; texts.next(), None);
     }
 }

@@ -1,31 +1,33 @@
 // The single unit: one fan, a tachometer, and a local and a remote temperature.
 #![tactic(auto)]
 
-ghost use Rattle.std.specs.Prelude.{◌≡◌, T};
-ghost use Rattle.single.specs.Kinds.{single, is_temperature, reported_to};
-ghost use Rattle.single.specs.Meaning.{state_of, marked_by, shown_by};
-ghost use Rattle.unit.specs.Answers.{in_range, report_answer};
-ghost use Rattle.single.specs.Settings.{settings_of};
+ghost use Rattle.std.specs.Prelude.{◌≡◌, refl};
+ghost use Rattle.own.specs.State.{own_of};
+ghost use Rattle.single.specs.Kinds.{reading_at, single};
+ghost use Rattle.single.specs.Meaning.{state_of};
 ghost use Rattle.unit.specs.Kind.{made};
-ghost use Rattle.unit.specs.Parts.{marks_of};
 ghost use Rattle.single.specs.Laws;
 
 use fault::{Cause, Fault};
+use loops::loop_of;
 use own::Own;
 use quantity::byte_of;
-use register::Register;
+use register::role_at;
+use registers::Role;
 use settings::Settings;
+use source::{Channel, Source};
 use unit::Unit;
 use unit::marks::Marks;
 
-pub mod own;
+pub mod loops;
 pub mod register;
 pub mod settings;
+pub mod source;
 
 #[derive(Drop)]
 pub struct Single {
     settings: Settings,
-    own: Own,
+    own: Own<1, 2>,
     marks: Marks<3>,
 }
 
@@ -40,101 +42,62 @@ impl Single {
         }
     }
 
-    // A report that is served.
-    fn note(&mut self, source: usize, value: i32)
-        requires { T (in_range single source value) }
-        ensures settings { self.new.settings ≡ self.old.settings }
-        ensures marks { marks_of self.new.marks ≡ marked_by self.old source value }
-        ensures own { self.new.own ≡ reported_to (settings_of self.old.settings) self.old.own source value }
-    {
-        let fails = self.settings.fails(source, value);
-        self.marks.report(source, fails, false);
-        self.own = self.own.reported(&self.settings, source, value);
-    }
-
-    // The byte that a register shows.
-    fn shown(&self, number: u8, register: Register) -> u8
-        ensures { result ≡ shown_by self.now number register }
+    // The byte of a last reading, at the register that shows it.
+    fn reading(&self, register: u8) -> u8
+        ensures { result ≡ reading_at (own_of self.now.own) register }
     {
         match register {
-            Register::Setting(_) | Register::Code(_) => self.settings.byte(number),
-            Register::Tach => self.own.tach,
-            Register::Reading(channel) => byte_of(self.own.reading(channel)),
+            0x20 => self.own.tach(0),
+            0x21 => byte_of(loop_of(&self.own, Channel::Local).reading),
+            _ => byte_of(loop_of(&self.own, Channel::Remote).reading),
         }
     }
 }
 
-fn is_temperature(source: usize) -> bool
-    ensures { result ≡ is_temperature source }
-{
-    source == 1 || source == 2
-}
-
-fn is_in_range(source: usize, value: i32) -> bool
-    ensures { result ≡ in_range single source value }
-{
-    if is_temperature(source) {
-        value >= -128 && value <= 127
-    } else {
-        value >= 0 && value <= 255
-    }
-}
-
-fn check_report(source: usize, value: i32) -> Result<(), Fault>
-    ensures { result ≡ report_answer single source value }
-{
-    if source >= 3 {
-        return Err(Cause::NoSourceOrFan.unplaced());
-    }
-    if !is_in_range(source, value) {
-        return Err(Cause::ValueOutOfRange.unplaced());
-    }
-    Ok(())
-}
-
+// Some methods read as a double unit's. They have no default in the trait, whose crate knows nothing of a kind's settings and
+// roles, nor where a kind keeps its marks.
 impl Unit for Single {
     const FANS: usize = 1;
 
     const SOURCES: usize = 3;
 
+    ghost FANS = { 1 };
+
+    ghost SOURCES = { 3 };
+
     ghost kind = { single };
 
     ghost state = { state_of };
+
+    ghost fans_are = { refl };
+
+    ghost sources_are = { refl };
 
     ghost ordered = { Laws.ordered };
 
     ghost faithful = { Laws.faithful };
 
-    fn fan_count() -> usize {
-        Self::FANS
-    }
-
-    fn source_count() -> usize {
-        Self::SOURCES
-    }
-
     fn reset(&mut self) {
-        self.settings = Settings::power_on();
-        self.own = Own::fresh();
-        self.marks = Marks::clear();
+        *self = Single::new();
     }
 
     fn write(&mut self, register: u8, byte: u8) -> Result<(), Fault> {
-        Self::check_write(register, byte)?;
-        self.settings.store(register, byte);
-        Ok(())
+        self.settings.write(register, byte)
     }
 
     fn read(&self, register: u8) -> Result<u8, Fault> {
-        match Register::at(register) {
-            Some(is) => Ok(self.shown(register, is)),
-            None => Err(Cause::NoRegister.unplaced()),
+        match role_at(register).ok_or(Cause::NoRegister.unplaced())? {
+            Role::Reading => Ok(self.reading(register)),
+            _ => Ok(self.settings.byte(register)),
         }
     }
 
     fn report(&mut self, source: usize, value: i32) -> Result<(), Fault> {
-        check_report(source, value)?;
-        self.note(source, value);
+        let reported = Source::try_from(source)?;
+        let report = reported.report(value)?;
+        let fails = self.settings.exceeds(reported, value);
+        self.marks.report(source, fails, false);
+        loops::note(&mut self.own, &self.settings, report);
         Ok(())
     }
 
@@ -163,7 +126,7 @@ impl Unit for Single {
     }
 
     fn base(&self, _fan: usize) -> u8 {
-        self.own.base(&self.settings)
+        loops::base(&self.own, &self.settings)
     }
 
     fn interrupt(&self, cause: bool) -> bool {
@@ -175,19 +138,11 @@ impl Unit for Single {
     }
 
     fn check_write(register: u8, byte: u8) -> Result<(), Fault> {
-        match Register::at(register) {
-            None => Err(Cause::NoRegister.unplaced()),
-            Some(Register::Tach | Register::Reading(_)) => Err(Cause::ReadOnly.unplaced()),
-            Some(Register::Code(_)) if byte % 16 > 4 => Err(Cause::RangeCode.unplaced()),
-            Some(_) => Ok(()),
-        }
+        registers::check_write(role_at(register), byte)
     }
 
     fn is_setting(register: u8) -> bool {
-        match Register::at(register) {
-            Some(Register::Setting(_) | Register::Code(_)) => true,
-            _ => false,
-        }
+        registers::is_setting(role_at(register))
     }
 
     fn setting(&self, register: u8) -> u8 {

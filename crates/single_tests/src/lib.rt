@@ -23,15 +23,13 @@ mod tests {
 
     const READ_ONLY: [u8; 3] = [0x20, 0x21, 0x22];
 
+    // As in the tests of the double unit: a crate to share one line would be more.
     fn refused<T>(cause: Cause) -> Result<T, Fault> {
         Err(cause.unplaced())
     }
 
     fn is_there(register: u8) -> bool {
-        match register {
-            0x00 | 0x10 | 0x18..=0x1e | 0x20..=0x22 => true,
-            _ => false,
-        }
+        matches!(register, 0x00 | 0x10 | 0x18..=0x1e | 0x20..=0x22)
     }
 
     #[test]

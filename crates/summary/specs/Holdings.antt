@@ -29,7 +29,7 @@ one_remark (Some (trailer count)) = 0
 
 abbrev pub how_many : (Option Said → ℕ) → List TextAt → ℕ
 how_many one [] = 0
-how_many one (t ∷ ts) = one (form_of t.text) + how_many one ts
+how_many one (t ∷ ts) = one (form_of t.line) + how_many one ts
 
 abbrev pub holdings : List TextAt → Summary
 holdings ts = record { writes = how_many one_write ts; counts = how_many one_count ts; remarks = how_many one_remark ts }

@@ -13,7 +13,7 @@ use setup::check_list;
 use setup::reader::Reader;
 use std::fmt;
 
-#[derive(Clone, Copy, PartialEq, Eq, Debug)]
+#[derive(Clone, Copy, PartialEq, Eq, Debug, Default)]
 pub struct Summary {
     pub writes: usize,
     pub counts: usize,
@@ -35,17 +35,14 @@ impl Summary {
     }
 }
 
+#[tactic(auto, using(setup::proofs::Lined::laid_few))]
 fn tally(list: &[u8]) -> Summary
     ensures { result ≡ holdings (laid list.now) }
 {
-    let mut summary = Summary {
-        writes: 0,
-        counts: 0,
-        remarks: 0,
-    };
-    let mut reader = Reader::new(list);
-    while let Some(text) = reader.next_text() {
-        summary.note(text.bytes);
+    // No fold: that the counts stay in range is an invariant, by the lines that are left.
+    let mut summary = Summary::default();
+    for text in Reader::new(list).texts() {
+        summary.note(text.line);
     }
     summary
 }
@@ -62,9 +59,11 @@ impl fmt::Display for Summary {
     ghost output = { λ s. Some (summary_line s) };
 
     fn fmt<W: fmt::Write>(&self, f: &mut fmt::Formatter<W>) -> fmt::Result {
-        let writes = self.writes;
-        let counts = self.counts;
-        let remarks = self.remarks;
+        let Summary {
+            writes,
+            counts,
+            remarks,
+        } = *self;
         write!(f, "writes {writes}, fan counts {counts}, remarks {remarks}")
     }
 }

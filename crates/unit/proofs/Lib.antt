@@ -1,3 +1,4 @@
+pub mod Counted
 pub mod Limits
 pub mod Offered
 pub mod Parts

@@ -1,27 +1,22 @@
 -- What a unit asks of the line and of a fan, as relations.
-use Rattle.std.proofs.Common.{◌≡◌, ℕ, zero, suc, ◌<◌, ◌≤◌, Bool, true, false, cond, T, ltb, ◌⊎◌, IfOk, Ok, Decides, Result, sym, refl, ap, ◌∙◌, subst, inl, inr, ⊎_elim, arith}
-use Rattle.fault.specs.declared.Cause.TheVariants.{NoSourceOrFan}
-use Rattle.fault.specs.declared.Fault.{Fault}
+use Rattle.std.proofs.Common.{◌≡◌, ℕ, zero, suc, ◌<◌, ◌≤◌, Bool, true, false, cond, T, ◌⊎◌, Decides, sym, refl, ap, ◌∙◌, subst, inl, inr, ⊎_elim, arith}
 use Rattle.std.proofs.lemmas.Bool.{cases_lt}
 use Rattle.std.proofs.lemmas.Bool.Decides.{Decides-at, Decides-below_or, Decides-and, Decides-or}
-use Rattle.unit.specs.Answers.{refused}
 use Rattle.unit.specs.Kind.{Kind, State}
-use Rattle.unit.specs.Levels.{greatest, some, stands_in, does, causes, demand_in, base_of, demanded, asked, level_of, level_answer, pulls_line, Cause, Pulls, Offer, Greatest}
+use Rattle.unit.specs.Levels.{greatest, some, stands_in, causes, demand_in, base_of, demanded, asked, level_of, pulls_line, Cause, Pulls, Offer, Greatest}
 use Rattle.unit.specs.Levels.Offer.{base, demand, answer}
-use Rattle.unit.specs.declared.level.Effect.{Effect}
-use Rattle.unit.specs.declared.level.Effect.TheVariants.{PullLine}
 
 decides-T : (b : Bool) → Decides b (T b)
 decides-T true = (λ e. tt, λ t. refl)
 decides-T false = (λ e. subst T (sym e) tt, λ t. absurd t)
 
-some_decides : (k : Kind) (e : Effect) (u : State k) → Decides (some k.sources (causes k e u)) (Cause k e u)
-some_decides k e u =
-    Decides-below_or (causes k e u) (λ s. T (stands_in k u s) × T (does k e u.page s)) (λ n. some n (causes k e u))
-    (λ s. Decides-and (stands_in k u s) (does k e u.page s) (decides-T _) (decides-T _)) refl (λ n. refl) k.sources
+some_decides : (k : Kind) (acts : k.Page → ℕ → Bool) (u : State k) → Decides (some k.sources (causes k acts u)) (Cause k acts u)
+some_decides k acts u =
+    Decides-below_or (causes k acts u) (λ s. T (stands_in k u s) × T (acts u.page s)) (λ n. some n (causes k acts u))
+    (λ s. Decides-and (stands_in k u s) (acts u.page s) (decides-T _) (decides-T _)) refl (λ n. refl) k.sources
 
 pub pulls_decides : (k : Kind) (u : State k) (r : Bool) → r ≡ pulls_line k u → Decides r (Pulls k u)
-pulls_decides k u r e = Decides-at r (pulls_line k u) e (Decides-or (k.forced u.page) (some k.sources (causes k PullLine u)) (decides-T _) (some_decides k PullLine u))
+pulls_decides k u r e = Decides-at r (pulls_line k u) e (Decides-or (k.forced u.page) (some k.sources (causes k k.pulls u)) (decides-T _) (some_decides k k.pulls u))
 
 -- the greatest of numbers is one of them, unless it is 0
 greatest_is : (n : ℕ) (f : ℕ → ℕ) → (greatest n f ≡ 0) ⊎ ((s : ℕ) × (s < n) × (greatest n f ≡ f s))
@@ -79,9 +74,5 @@ module _ (k : Kind) (u : State k) (low : Bool) (f : ℕ) where
   below (demand {s} h stands) = omega (arith, greatest_above k.sources (demand_in k u f) s h, stands_demand s (stands_in k u s) stands)
   below (answer h) = omega (arith, low_answer low h)
 
-  served : (t : Bool) → IfOk (cond t (Ok (level_of k u low f)) (refused NoSourceOrFan)) (Greatest (Offer k u (T low) f))
-  served true = record { offered = offered; above = λ m o. below o }
-  served false = tt
-
-  pub greatest_offer : (r : Result ℕ Fault) → r ≡ level_answer k u low f → IfOk r (Greatest (Offer k u (T low) f))
-  greatest_offer r e = subst (λ q. IfOk q (Greatest (Offer k u (T low) f))) (sym e) (served (ltb f k.fans))
+  pub greatest_level : (n : ℕ) → n ≡ level_of k u low f → Greatest (Offer k u (T low) f) n
+  greatest_level n e = subst (Greatest (Offer k u (T low) f)) (sym e) (record { offered = offered; above = λ m o. below o })

@@ -4,8 +4,6 @@ use Rattle.fault.specs.declared.Cause.TheVariants.{NoSourceOrFan}
 use Rattle.fault.specs.declared.Fault.{Fault}
 use Rattle.unit.specs.Answers.{refused}
 use Rattle.unit.specs.Kind.{Kind, State}
-use Rattle.unit.specs.declared.level.Effect.{Effect}
-use Rattle.unit.specs.declared.level.Effect.TheVariants.{PullLine, AssertInt}
 
 -- the greatest of f below n, and 0 where there is none
 abbrev pub greatest : ℕ → (ℕ → ℕ) → ℕ
@@ -21,14 +19,9 @@ some (suc n) p = p n || some n p
 abbrev pub stands_in : (k : Kind) → State k → ℕ → Bool
 stands_in k u s = (u.marks s).failing || (u.marks s).held
 
--- what a standing cause of the source does
-abbrev pub does : (k : Kind) → Effect → k.Page → ℕ → Bool
-does k PullLine p s = k.pulls p s
-does k AssertInt p s = k.asserts p s
-
--- the source has a standing cause with this effect
-abbrev pub causes : (k : Kind) → Effect → State k → ℕ → Bool
-causes k e u s = stands_in k u s && does k e u.page s
+-- the source has a standing cause that acts so
+abbrev pub causes : (k : Kind) → (k.Page → ℕ → Bool) → State k → ℕ → Bool
+causes k acts u s = stands_in k u s && acts u.page s
 
 -- the demand of a source, while its cause stands
 abbrev pub demand_in : (k : Kind) → State k → ℕ → ℕ → ℕ
@@ -39,11 +32,11 @@ base_of k u f = k.base u.strap u.page u.own f
 
 -- the unit pulls the line: it is forced, or has a standing cause that pulls
 abbrev pub pulls_line : (k : Kind) → State k → Bool
-pulls_line k u = k.forced u.page || some k.sources (causes k PullLine u)
+pulls_line k u = k.forced u.page || some k.sources (causes k k.pulls u)
 
 -- a standing cause asserts INT
 abbrev pub int_cause : (k : Kind) → State k → Bool
-int_cause k u = some k.sources (causes k AssertInt u)
+int_cause k u = some k.sources (causes k k.asserts u)
 
 -- INT
 abbrev pub int_of : (k : Kind) → State k → Bool
@@ -70,13 +63,13 @@ level_answer k u low f = cond (nat_lt f k.fans) (Ok (level_of k u low f)) (refus
 
 -- The same as relations.
 
--- some source has a standing cause with this effect
-abbrev pub Cause : (k : Kind) → Effect → State k → Type 0
-Cause k e u = (s : ℕ) × (s < k.sources) × (T (stands_in k u s) × T (does k e u.page s))
+-- some source has a standing cause that acts so
+abbrev pub Cause : (k : Kind) → (k.Page → ℕ → Bool) → State k → Type 0
+Cause k acts u = (s : ℕ) × (s < k.sources) × (T (stands_in k u s) × T (acts u.page s))
 
 -- the unit pulls the line
 abbrev pub Pulls : (k : Kind) → State k → Type 0
-Pulls k u = T (k.forced u.page) ⊎ Cause k PullLine u
+Pulls k u = T (k.forced u.page) ⊎ Cause k k.pulls u
 
 -- the levels that a fan is offered: its base, each standing demand, and its answer while the line is low
 pub data Offer (k : Kind) (u : State k) (Low : Type 0) (f : ℕ) : ℕ → Type 0 where

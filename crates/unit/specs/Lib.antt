@@ -1,4 +1,5 @@
 pub mod Answers
+pub mod Calls
 pub mod Kind
 pub mod Levels
 pub mod Order

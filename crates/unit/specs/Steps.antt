@@ -1,11 +1,15 @@
 -- What the calls of a unit do: a report, a write, a reset.
-use Rattle.std.specs.Prelude.{ℕ, Bool, cond, not, ◌&&◌, ◌||◌, ℤ, Ok, Err, Result, ◌==◌}
+use Rattle.std.specs.Prelude.{ℕ, Bool, cond, not, ◌&&◌, ◌||◌, ℤ, Ok, Err, Result, ◌==◌, nat_lt}
 use Rattle.unit.specs.declared.mark.Mark.{Mark}
 use Rattle.unit.specs.Kind.{Kind, State, made}
 
 -- f with v in place of what it has at k
 abbrev pub put : {A : Type 0} → (ℕ → A) → ℕ → A → ℕ → A
 put f k v = λ n. cond (n == k) v (f n)
+
+-- the same where there are n, and f as it was where k is none of them
+abbrev pub put_below : {A : Type 0} → ℕ → (ℕ → A) → ℕ → A → ℕ → A
+put_below n f k v = cond (nat_lt k n) (put f k v) f
 
 -- a report is failing or not as its value is judged, and a failing one is held if the settings hold it; else the hold stays as it was
 abbrev pub marked : Bool → Bool → Mark → Mark

@@ -1,42 +1,23 @@
-// What a unit asks of the line, of INT and of its fans: written once, for every kind.
-ghost use Rattle.std.specs.Prelude.{◌≡◌, true, T, IfOk, Decides};
+// What a unit asks of the line, of INT and of its fans: written once, for every kind. Sources and fans are numbers, as in the trait.
+ghost use Rattle.std.specs.Prelude.{◌≡◌, ℕ, Bool, true, T, IfOk, Decides};
+ghost use Rattle.unit.specs.Calls.{Computes};
 ghost use Rattle.unit.specs.Levels.{some, causes, demand_in, pulls_line, int_of, pin_of, demanded, asked, level_answer, Pulls, Offer, Greatest};
 ghost use Rattle.unit.specs.Order.{Steady};
 
 use crate::Unit;
 use fault::{Cause, Fault};
 
-// What a standing cause may do.
-#[derive(Clone, Copy)]
-pub enum Effect {
-    PullLine,
-    AssertInt,
-}
-
-// Whether the source has a standing cause with this effect.
-fn causes<U: Unit>(unit: &U, effect: Effect, source: usize) -> bool
-    ensures { result ≡ causes U.Unit.kind effect (U.Unit.state unit.now) source }
+// Whether some source has a standing cause that acts so.
+fn some_cause<U: Unit, F: Fn(usize) -> bool>(unit: &U, acts: F) -> bool
+    requires { F.IsAlwaysCallable acts }
+    ensures { (does : U.kind.Page → ℕ → Bool) → Computes (F.post acts) (does (U.state unit.now).page) → result ≡ some U.kind.sources (causes U.kind does (U.state unit.now)) }
 {
-    unit.stands(source)
-        && match effect {
-            Effect::PullLine => unit.pulls(source),
-            Effect::AssertInt => unit.asserts(source),
-        }
-}
-
-fn some_cause<U: Unit>(unit: &U, effect: Effect) -> bool
-    ensures { result ≡ some U.Unit.kind.sources (causes U.Unit.kind effect (U.Unit.state unit.now)) }
-{
-    let mut any = false;
-    for source in 0..U::source_count() {
-        any = causes(unit, effect, source) || any;
-    }
-    any
+    (0..U::SOURCES).any(|source| unit.stands(source) && acts(source))
 }
 
 // The demand of a source on a fan while its cause stands.
 fn standing_demand<U: Unit>(unit: &U, source: usize, fan: usize) -> u8
-    ensures { result ≡ demand_in U.Unit.kind (U.Unit.state unit.now) fan source }
+    ensures { result ≡ demand_in U.kind (U.state unit.now) fan source }
 {
     if unit.stands(source) {
         unit.demand(source, fan)
@@ -47,74 +28,59 @@ fn standing_demand<U: Unit>(unit: &U, source: usize, fan: usize) -> u8
 
 // The greatest standing demand on a fan.
 pub fn greatest_demand<U: Unit>(unit: &U, fan: usize) -> u8
-    ensures { result ≡ demanded U.Unit.kind (U.Unit.state unit.now) fan }
+    ensures { result ≡ demanded U.kind (U.state unit.now) fan }
 {
-    let mut top = 0;
-    for source in 0..U::source_count() {
-        top = standing_demand(unit, source, fan).max(top);
-    }
-    top
-}
-
-fn is_pulling<U: Unit>(unit: &U) -> bool
-    ensures { result ≡ pulls_line U.Unit.kind (U.Unit.state unit.now) }
-{
-    let cause = some_cause(unit, Effect::PullLine);
-    unit.forced() || cause
+    (0..U::SOURCES)
+        .map(|source| standing_demand(unit, source, fan))
+        .max()
+        .unwrap_or(0)
 }
 
 // Whether the unit pulls the line: it is forced, or has a standing cause that pulls.
 pub fn pulls_line<U: Unit>(unit: &U) -> bool
-    ensures value { result ≡ pulls_line U.Unit.kind (U.Unit.state unit.now) }
-    ensures decides { Decides result (Pulls U.Unit.kind (U.Unit.state unit.now)) }
+    ensures value { result ≡ pulls_line U.kind (U.state unit.now) }
+    ensures decides { Decides result (Pulls U.kind (U.state unit.now)) }
 {
-    is_pulling(unit)
+    unit.forced() || some_cause(unit, |source| unit.pulls(source))
 }
 
 // Whether INT is asserted.
 pub fn asserts_int<U: Unit>(unit: &U) -> bool
-    ensures { result ≡ int_of U.Unit.kind (U.Unit.state unit.now) }
+    ensures { result ≡ int_of U.kind (U.state unit.now) }
 {
-    unit.interrupt(some_cause(unit, Effect::AssertInt))
+    unit.interrupt(some_cause(unit, |source| unit.asserts(source)))
 }
 
 // The level of the INT pin.
 pub fn int_pin<U: Unit>(unit: &U) -> bool
-    ensures { result ≡ pin_of U.Unit.kind (U.Unit.state unit.now) }
+    ensures { result ≡ pin_of U.kind (U.state unit.now) }
 {
-    unit.pin(some_cause(unit, Effect::AssertInt))
+    unit.pin(some_cause(unit, |source| unit.asserts(source)))
 }
 
 // All that does not come from the base: the standing demands, and the answer while the line is low.
 fn asked<U: Unit>(unit: &U, low: bool, fan: usize) -> u8
-    ensures { result ≡ asked U.Unit.kind (U.Unit.state unit.now) low fan }
+    ensures { result ≡ asked U.kind (U.state unit.now) low fan }
 {
     let demand = greatest_demand(unit, fan);
     let answer = if low { unit.answer(fan) } else { 0 };
     demand.max(answer)
 }
 
-fn fan_level<U: Unit>(unit: &U, low: bool, fan: usize) -> Result<u8, Fault>
-    ensures { result ≡ level_answer U.Unit.kind (U.Unit.state unit.now) low fan }
-{
-    if fan >= U::fan_count() {
-        return Err(Cause::NoSourceOrFan.unplaced());
-    }
-    let asked = asked(unit, low, fan);
-    Ok(unit.base(fan).max(asked))
-}
-
 // A fan's level while the line is low or not: the greatest level that it is offered.
 pub fn level<U: Unit>(unit: &U, low: bool, fan: usize) -> Result<u8, Fault>
-    ensures value { result ≡ level_answer U.Unit.kind (U.Unit.state unit.now) low fan }
-    ensures greatest { IfOk result (λ n. Greatest (Offer U.Unit.kind (U.Unit.state unit.now) (T low) fan) n) }
+    ensures value { result ≡ level_answer U.kind (U.state unit.now) low fan }
+    ensures greatest { IfOk result (λ n. Greatest (Offer U.kind (U.state unit.now) (T low) fan) n) }
 {
-    fan_level(unit, low, fan)
+    if fan >= U::FANS {
+        return Err(Cause::NoSourceOrFan.unplaced());
+    }
+    Ok(unit.base(fan).max(asked(unit, low, fan)))
 }
 
 // Every kind is steady under load: proved once, from its laws.
 pub fn steady<U: Unit>(_unit: &U) -> bool
-    ensures { (result ≡ true) × Steady U.Unit.kind }
+    ensures { (result ≡ true) × Steady U.kind }
 {
     true
 }

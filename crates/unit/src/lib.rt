@@ -1,7 +1,7 @@
 // What a unit means, whatever its kind, and what is the same for every kind.
 #![tactic(auto)]
 
-ghost use Rattle.std.specs.Prelude.{◌≡◌};
+ghost use Rattle.std.specs.Prelude.{◌≡◌, ℕ};
 ghost use Rattle.unit.specs.Answers.{write_answer, read_answer, report_answer};
 ghost use Rattle.unit.specs.Kind.{Kind, State};
 ghost use Rattle.unit.specs.Levels.{stands_in, base_of};
@@ -16,21 +16,21 @@ pub mod marks;
 pub mod page;
 
 // A unit of some kind. Fans and sources are counted from 0. A question about a source or a fan that is not there has an answer too, which
-// its kind defines; a rack asks only about those that are.
+// its kind defines; a rack asks only about those that are. They are numbers, since a rack asks any kind alike and a bad number is refused;
+// a call has its arguments apart, as they come over the bus.
 pub trait Unit {
+    // How many there are. Each constant is a ghost number too, for the laws to cite.
     const FANS: usize;
 
     const SOURCES: usize;
 
+    ghost FANS: { ℕ };
+
+    ghost SOURCES: { ℕ };
+
     ghost kind: { Kind };
 
     ghost state: { Self → State kind };
-
-    fn fan_count() -> usize
-        ensures { result ≡ kind.fans };
-
-    fn source_count() -> usize
-        ensures { result ≡ kind.sources };
 
     fn reset(&mut self)
         ensures { state self.new ≡ reset_in kind (state self.old) };
@@ -85,6 +85,10 @@ pub trait Unit {
 
     fn setting(&self, register: u8) -> u8
         ensures { result ≡ kind.byte (state self.now).page register };
+
+    ghost fans_are: { FANS ≡ kind.fans };
+
+    ghost sources_are: { SOURCES ≡ kind.sources };
 
     ghost ordered: { Order kind };
 

@@ -37,8 +37,8 @@ impl Mark {
         ensures { result ≡ ended over self }
     {
         Mark {
-            failing: self.failing,
             held: self.held && !over,
+            ..self
         }
     }
 

@@ -1,8 +1,8 @@
 // A setting is read and put by its register.
-ghost use Rattle.std.specs.Prelude.{◌≡◌, ◌-◌, ◌%◌, cond};
+ghost use Rattle.std.specs.Prelude.{◌≡◌, ◌-◌};
+ghost use Rattle.std.specs.Bool.{then_some};
 ghost use Rattle.registers.specs.Roles.{answer_to};
-ghost use Rattle.registers.specs.Settings.{code_in, filled, has_code, kept, kept_as, range_code, settings_in, with_code};
-ghost use Rattle.unit.specs.Parts.{bytes_of};
+ghost use Rattle.registers.specs.Settings.{filled, has_code, kept, kept_as, range_code, settings_in};
 ghost use Rattle.unit.specs.Steps.{after};
 
 use super::Store;
@@ -10,12 +10,6 @@ use crate::{Role, check_write};
 use control::Range;
 use fault::Fault;
 use unit::page::Page;
-
-fn has_code(n: usize, first: u8, register: u8) -> bool
-    ensures { result ≡ has_code n first register }
-{
-    register >= first && usize::from(register) < usize::from(first).saturating_add(n)
-}
 
 impl<const N: usize, const FIRST: u8> Store<N, FIRST> {
     // All zero, with range codes 0.
@@ -28,24 +22,21 @@ impl<const N: usize, const FIRST: u8> Store<N, FIRST> {
         }
     }
 
-    fn kept_range(&self, index: usize) -> Range
-        ensures { result.code ≡ code_in self.now.codes index }
+    // Where the range code of a register is kept, if it has one.
+    fn code_place(register: u8) -> Option<usize>
+        ensures { result ≡ then_some (has_code N FIRST register) (register - FIRST) }
     {
-        if index < N {
-            self.codes[index]
-        } else {
-            Range::narrowest()
-        }
+        let place = usize::from(register.checked_sub(FIRST)?);
+        (place < N).then_some(place)
     }
 
     pub fn byte(&self, register: u8) -> u8
         ensures { result ≡ settings_in self.now register }
     {
         let byte = self.page.get(register);
-        if has_code(N, FIRST, register) {
-            byte / 16 * 16 + self.kept_range(usize::from(register - FIRST)).code()
-        } else {
-            byte
+        match Self::code_place(register) {
+            Some(place) => byte / 16 * 16 + u8::from(self.codes[place]),
+            None => byte,
         }
     }
 
@@ -53,19 +44,9 @@ impl<const N: usize, const FIRST: u8> Store<N, FIRST> {
     pub fn range(&self, register: u8) -> Range
         ensures { result.code ≡ range_code N FIRST (settings_in self.now) register }
     {
-        if has_code(N, FIRST, register) {
-            self.kept_range(usize::from(register - FIRST))
-        } else {
-            Range::narrowest()
-        }
-    }
-
-    fn set_range(&mut self, index: usize, range: Range)
-        ensures codes { code_in self.new.codes ≡ with_code N (code_in self.old.codes) index range.code }
-        ensures page { bytes_of self.new.page ≡ bytes_of self.old.page }
-    {
-        if index < N {
-            self.codes[index] = range;
+        match Self::code_place(register) {
+            Some(place) => self.codes[place],
+            None => Range::narrowest(),
         }
     }
 
@@ -73,13 +54,13 @@ impl<const N: usize, const FIRST: u8> Store<N, FIRST> {
     pub fn put(&mut self, register: u8, byte: u8)
         ensures { settings_in self.new ≡ kept N FIRST (settings_in self.old) register byte }
     {
-        if !has_code(N, FIRST, register) {
+        let Some(place) = Self::code_place(register) else {
             self.page.put(register, byte);
             return;
-        }
-        if let Some(range) = Range::of_code(byte % 16) {
+        };
+        if let Ok(range) = Range::try_from(byte % 16) {
             self.page.put(register, byte);
-            self.set_range(usize::from(register - FIRST), range);
+            self.codes[place] = range;
         }
     }
 
@@ -89,8 +70,8 @@ impl<const N: usize, const FIRST: u8> Store<N, FIRST> {
         ensures after { settings_in self.new ≡ after result (kept_as N FIRST role (settings_in self.old) register byte) (settings_in self.old) }
     {
         check_write(role, byte)?;
-        if let Some(Role::Setting(mask) | Role::Code(mask)) = role {
-            self.put(register, byte & mask);
+        if let Some(role @ (Role::Setting(_) | Role::Code(_))) = role {
+            self.put(register, role.named(byte));
         }
         Ok(())
     }
@@ -100,8 +81,8 @@ impl<const N: usize, const FIRST: u8> Store<N, FIRST> {
         ensures { settings_in result ≡ filled N FIRST (λ _. 0) bytes.now }
     {
         let mut store = Store::zero();
-        for (register, byte) in bytes {
-            store.put(*register, *byte);
+        for &(register, byte) in bytes {
+            store.put(register, byte);
         }
         store
     }

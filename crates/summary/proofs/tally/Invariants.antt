@@ -1,10 +1,11 @@
-use Rattle.std.proofs.Common.{length}
-use Rattle.setup.specs.Reading.{ahead}
-use Rattle.summary.proofs.Tallies.{Sofar}
+-- what is noted and the lines ahead make what the list holds, and there are no more lines than bytes
+use Rattle.std.proofs.Common.{◌≡◌, ◌+◌, ◌≤◌, length}
+use Rattle.setup.specs.Lines.{laid}
+use Rattle.summary.specs.Holdings.{holdings, plus}
 use Rattle.summary.proofs.tally.Given as goal
 
 abbrev pub invariant-loop-text : goal.invariant-loop-text
-invariant-loop-text l = Sofar l.list l.summary (ahead l.reader)
-
-abbrev pub decreases-loop-text : goal.decreases-loop-text
-decreases-loop-text l = length (ahead l.reader)
+invariant-loop-text l = record {
+  whole : plus l.summary (holdings l.text-iterator) ≡ holdings (laid l.list);
+  few : l.summary.writes + (l.summary.counts + (l.summary.remarks + length l.text-iterator)) ≤ length l.list;
+}

@@ -1,13 +1,6 @@
-use Rattle.std.proofs.Common.{sym, subst}
-use Rattle.double.specs.Status.{AllShown}
+use Rattle.std.proofs.Common.{rules}
 use Rattle.double.proofs.Shown.{all_shown}
 use Rattle.double.proofs.status.status_byte.Goals as goal
 
-pub returns : goal.returns
-returns c =
-    let value = c.joined.ensures in
-    let m = c.args.missing in
-    let f = c.args.fault in
-    let t = c.args.tach in
-    let h = c.args.hot_plug in
-    record { value = value; shows = subst (λ n. AllShown n m f t h) (sym value) (all_shown m f t h) }
+pub returns-clause-shows : goal.returns-clause-shows
+returns-clause-shows c = all_shown _ c.args.missing c.args.fault c.args.tach c.args.hot_plug (search rules)

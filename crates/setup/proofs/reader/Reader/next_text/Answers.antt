@@ -2,23 +2,18 @@ use Rattle.std.proofs.Common.{◌≡◌, ◌+◌, ◌-◌, take, drop, Some, sym
 use Rattle.std.proofs.lemmas.List.{take_rest}
 use Rattle.setup.specs.Lines.{lines, lay_out}
 use Rattle.setup.specs.Reading.{first, rest}
-use Rattle.setup.proofs.Lined.{Line, none_ahead, one_ahead}
+use Rattle.setup.proofs.Lined.{Line, some_left, one_ahead}
 use Rattle.setup.proofs.reader.Reader.next_text.Goals as goal
-
-pub returns-then-is_at_end : goal.returns-then-is_at_end
-returns-then-is_at_end c =
-    let none = none_ahead c.args.self.now.place c.args.self.now.list.now (search rules) in
-    record { text = ap first (sym none); ahead = none ∙ sym (ap rest none) }
 
 pub returns : goal.returns
 returns c =
-    let list = c.args.self.now.list.now in
-    let place = c.args.self.now.place in
+    let list = c.self.inside.list.now in
+    let place = c.self.inside.place in
     let told = c.line_length.ensures in
     let size : place.offset + c.line_length.result - place.offset ≡ c.line_length.result = omega arith in
     let line : Line (drop place.offset list) c.line_length.result = subst (λ bs. Line bs c.line_length.result) (take_rest list place.offset) (record { within = told.within; before = told.before; newline = told.newline }) in
-    let one = one_ahead place list c.line_length.result (search rules) line in
+    let one = sym c.self.view_is ∙ one_ahead place list c.line_length.result (some_left place list c.args.self.now c.self.view_is (search rules)) line in
     record {
-      text = ap (λ n. Some (record { place = place; text = take n (drop place.offset list) })) size ∙ ap first (sym one);
-      ahead = ap (λ p. lay_out p (lines (drop p.offset list))) c.place_after-self.ensures ∙ ap rest (sym one);
+      text = ap (λ n. Some (record { place = place; line = take n (drop place.offset list) })) size ∙ ap first (sym one);
+      ahead = ap (λ p. lay_out p (lines (drop p.offset list))) c.place_after-self-inside.ensures ∙ ap rest (sym one);
     }

@@ -1,11 +1,9 @@
-use Rattle.std.proofs.Common.{ap, ◌∙◌}
-use Rattle.single.specs.declared.settings.Codes.{Codes}
-use Rattle.single.specs.Settings.{overlaid}
-use Rattle.single.proofs.Overlay.{first_settings}
+use Rattle.std.proofs.Common.{◌∙◌}
+use Rattle.single.proofs.Stored.{first_settings, lone_first}
 use Rattle.single.proofs.settings.Settings.power_on.Goals as goal
 
+pub invariant_of-result : goal.invariant_of-result
+invariant_of-result c = record { lone = lone_first _ (c.power_on.ensures ∙ first_settings) }
+
 pub returns : goal.returns
-returns c =
-    let codes : Codes = record { local = c.first_range-range.result; remote = c.first_range-range.result } in
-    let three = c.first_range-range.ensures in
-    ap (overlaid codes) c.first_page.ensures ∙ first_settings codes three three
+returns c = c.power_on.ensures ∙ first_settings
