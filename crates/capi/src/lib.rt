@@ -11,7 +11,7 @@ use setup::check_list;
 // What `fanrack_loop_level` answers for a code that no range has: a number, since C is handed no other refusal.
 const NO_RANGE: i32 = -4;
 
-// 0 for a good set-up list, else the number of its first fault.
+// 0 for a good set-up list, else the number of its first fault, since C takes no `Result`.
 #[unsafe(no_mangle)]
 pub extern "C" fn fanrack_check_list(list: &[u8]) -> i32
     ensures { result ≡ pos (list_answer list.now) }
@@ -22,6 +22,7 @@ pub extern "C" fn fanrack_check_list(list: &[u8]) -> i32
     }
 }
 
+// A number, since C hands over an `int32_t`: any but 0 is on.
 fn is_on(on: i32) -> bool
     ensures { result ≡ is_on on }
 {

@@ -14,7 +14,7 @@ pub struct Loop {
 }
 
 impl Loop {
-    // As after a reset.
+    // As after a reset. The name says which state it is, as `default` would not.
     pub fn off() -> Loop
         ensures { result ≡ off }
     {

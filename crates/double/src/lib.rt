@@ -43,7 +43,7 @@ pub struct Double {
 }
 
 impl Double {
-    // As made. Any number is taken for a strap, modulo 8.
+    // As made. Any number is taken for a strap, modulo 8, as it always was: a public function takes no less.
     pub fn new(strap: u8) -> Double
         ensures made { state_of result ≡ made double (strap % 8) }
         ensures examples { WorkedExamples }
@@ -98,7 +98,7 @@ impl Double {
         self.settings.byte(0x40 + channel.index()) | byte_if(held, 0x80)
     }
 
-    // The byte that a register shows.
+    // The byte that a register shows: by number, as registers come, since a role says only what kind of register one is.
     fn shown(&self, register: u8) -> u8
         ensures { result ≡ shown (settings_of self.now.settings) (marks_of self.now.marks) (own_of self.now.own) register }
     {
@@ -118,6 +118,7 @@ impl Double {
     }
 }
 
+// Some methods read as a single unit's, which says why.
 impl Unit for Double {
     const FANS: usize = 2;
 

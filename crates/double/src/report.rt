@@ -13,6 +13,7 @@ use double_settings::settings::Settings;
 use fault::{Cause, Fault};
 use own::Own;
 
+// A single unit has other cases.
 #[derive(Clone, Copy, PartialEq, Eq, Debug)]
 pub enum Report {
     Missing(Fan, bool),

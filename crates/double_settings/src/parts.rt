@@ -118,7 +118,7 @@ impl Source {
         Source::Temperature(Channel::Remote2),
     ];
 
-    // Counted from 0.
+    // Counted from 0. A method, as `index` is, since its contract bounds it too, which that of a `From` cannot.
     pub fn number(self) -> usize
         ensures is { result ≡ source_number self }
         ensures small { result < 11 }

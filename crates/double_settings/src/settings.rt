@@ -14,8 +14,8 @@ use fault::Fault;
 use quantity::{byte_if, high_level, is_bit, low_level, signed};
 use registers::store::Store;
 
-// The three range codes stand at 88h to 8Ah. Like a store, these have no model. Questions that a single unit has too read other registers: a type over all their numbers would
-// be no plainer.
+// The three range codes stand at 88h to 8Ah. Like a store, these have no model. Questions that a single unit
+// has too are a line or a struct each, most of other registers: a type over all their numbers would be no plainer.
 #[derive(Drop)]
 pub struct Settings {
     pub store: Store<3, 0x88>,
@@ -212,7 +212,7 @@ impl Settings {
         }
     }
 
-    // The bit of a source for one effect: of a fan's sources the four bits from `first` on, of a temperature this bit.
+    // The bit of a source for one effect, by its place in the registers, which an enum would only name again: of a fan's sources the four bits from `first` on, of a temperature this bit.
     fn has_effect(&self, source: Source, first: u8, bit: u8) -> bool
         requires { first ≤ 4 }
         ensures { result ≡ has_effect (settings_of self.now) first bit source }

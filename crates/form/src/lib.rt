@@ -6,7 +6,7 @@ ghost use Rattle.std.specs.Option.{option_map};
 ghost use Rattle.form.specs.Forms.{opening, hex_digit, hex_byte, decimal_digit, printable, all_printable, meaning, trailer_count, remark_shaped, as_write, as_fans, as_remark, as_trailer, formed, form_of};
 ghost use Rattle.form.specs.Spelling.{Understood};
 
-// A line without its newline. A remark is its own part of the list.
+// A line without its newline. A remark is its own part of the list. Clauses say what it means by `meaning`, since an enum has no model.
 #[derive(Clone, Copy, PartialEq, Eq, Debug)]
 pub enum Line<'a> {
     Write { unit: u8, register: u8, byte: u8 },
@@ -26,7 +26,7 @@ impl Line<'_> {
     }
 }
 
-// The form that a line's first byte opens.
+// The form that a line's first byte opens. An enum, since letters are the cases of a function of a lone `char`.
 #[derive(Clone, Copy)]
 enum Opening {
     Write,

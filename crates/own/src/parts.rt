@@ -1,5 +1,5 @@
 // The readings and loops, each by the number of its fan or channel. One is changed at a time, and the others stay as they were. Both have their
-// methods, since no generic struct may have an array of a type parameter.
+// methods, since a generic struct with an array of a type parameter asks for its size at each call.
 ghost use Rattle.std.specs.Prelude.{◌≡◌};
 ghost use Rattle.control.specs.State.{heard};
 ghost use Rattle.own.specs.State.{fresh, if_there, own_of, with_loop, with_tach};

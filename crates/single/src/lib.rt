@@ -42,7 +42,7 @@ impl Single {
         }
     }
 
-    // The byte of a last reading, at the register that shows it.
+    // The byte of a last reading, at the register that shows it: by number, as registers come, since a role says only that one is a reading.
     fn reading(&self, register: u8) -> u8
         ensures { result ≡ reading_at (own_of self.now.own) register }
     {

@@ -15,6 +15,7 @@ pub enum Channel {
     Remote = 1,
 }
 
+// Like the channels, sources and reports have other cases in a double unit.
 #[derive(Clone, Copy, PartialEq, Eq, Debug)]
 pub enum Source {
     Tach,

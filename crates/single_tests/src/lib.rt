@@ -23,7 +23,7 @@ mod tests {
 
     const READ_ONLY: [u8; 3] = [0x20, 0x21, 0x22];
 
-    // As in the tests of the double unit: a crate to share one line would be more.
+    // `refused` and `is_there` are as in the tests of the double unit: a crate to share a line or two, over other registers, would be more.
     fn refused<T>(cause: Cause) -> Result<T, Fault> {
         Err(cause.unplaced())
     }

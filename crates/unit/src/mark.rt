@@ -12,7 +12,7 @@ pub struct Mark {
 }
 
 impl Mark {
-    // Neither failing nor held.
+    // Neither failing nor held. The name says which state it is, as `default` would not.
     pub fn clear() -> Mark
         ensures { result ≡ clear }
     {

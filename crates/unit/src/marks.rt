@@ -5,7 +5,7 @@ use crate::mark::Mark;
 
 pub mod records;
 
-// Sources are numbers here, since each kind has its own enum of them. No type is shared with the arrays of other crates, since the language has no generic struct with an array of a type parameter, and there is
+// Sources are numbers here, since each kind has its own enum of them. No type is shared with the arrays of other crates, since a generic struct with an array of a type parameter asks for its size at each call, and there is
 // no model, since what marks mean is a function of the source.
 #[derive(Drop)]
 pub struct Marks<const N: usize> {

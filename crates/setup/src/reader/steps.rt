@@ -71,6 +71,7 @@ impl<'a> Reader<'a> {
         if self.is_at_end() {
             return None;
         }
+        // By offsets, since a fault tells where its line begins.
         let list = self.list;
         let place = self.place;
         let start = place.offset;

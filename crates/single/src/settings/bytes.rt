@@ -30,6 +30,7 @@ const POWER_ON: [(u8, u8); 9] = [
     (0x1e, 0xff),
 ];
 
+// Questions that a double unit has too stand here again: a type over all their register numbers would be no plainer.
 impl Settings {
     pub fn power_on() -> Settings
         ensures { settings_of result ≡ power_on_byte }

@@ -19,6 +19,7 @@ impl Page {
         self.bytes[usize::from(register)]
     }
 
+    // By index, likewise.
     pub fn put(&mut self, register: u8, byte: u8)
         ensures { bytes_of self.new ≡ put (bytes_of self.old) register byte }
     {
