@@ -1,5 +1,5 @@
 -- One line of a list, and the lines after it.
-use Rattle.std.proofs.Common.{◌≡◌, ℕ, zero, suc, ◌+◌, ◌<◌, ◌≤◌, Bool, true, false, cond, eqb, List, [], ◌∷◌, length, get_or, take, drop, sym, refl, ap, ◌∙◌, ⊎_elim, arith, length-drop}
+use Rattle.std.proofs.Common.{◌≡◌, ℕ, zero, suc, ◌+◌, ◌<◌, ◌≤◌, Bool, true, false, cond, eqb, List, [], ◌∷◌, length, get_or, take, drop, sym, refl, ap, ◌∙◌, subst, ⊎_elim, arith, length-drop}
 use Rattle.fault.specs.declared.Place.{Place}
 use Rattle.std.proofs.lemmas.List.{drop-drop, at_drop_all, length-take-le}
 use Rattle.std.proofs.lemmas.Bool.{cases_lt}
@@ -80,3 +80,9 @@ length-laid p (l ∷ ls) = ap suc (length-laid (past p l) ls)
 -- no more lines than bytes
 pub laid_few : (bs : List ℕ) → length (laid bs) ≤ length bs
 laid_few bs = omega (arith, length-laid (record { line = 1; offset = 0 }) (lines bs), lines_few bs)
+
+-- nor are more lines ahead of a place in a list than the list has bytes
+pub ahead_few : (p : Place) (list : List ℕ) (ahead : List TextAt) → lay_out p (lines (drop p.offset list)) ≡ ahead → length ahead ≤ length list
+ahead_few p list ahead view =
+    subst (λ ts. length ts ≤ length list) view
+    (simp (length-laid p (lines (drop p.offset list))) (let few = lines_few (drop p.offset list) in let size = length-drop p.offset list in omega (arith, few, size)))

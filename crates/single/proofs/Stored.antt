@@ -10,7 +10,8 @@ use Rattle.registers.specs.declared.Role.{Role}
 use Rattle.registers.proofs.Laws.{written_as}
 use Rattle.registers.proofs.PowerOn.{start_filled}
 use Rattle.single.specs.Registers.{LoneCodes, first_bytes, power_on_byte, role_at, rows}
-use Rattle.single.specs.Written.{stores}
+use Rattle.single.specs.Settings.{stored_in}
+use Rattle.single.specs.Written.{stores, stores_if}
 
 pub first_settings : filled 2 0x1a (λ _. 0) first_bytes ≡ power_on_byte
 first_settings = start_filled 2 0x1a rows first_bytes tt
@@ -22,6 +23,9 @@ module _ (s is : ℕ → ℕ) (r b : ℕ) where
   pub written : (o : Option Role) (answer : Result (Unit {0}) Fault) → o ≡ role_at r → answer ≡ answer_to o b → is ≡ after answer (kept_as 2 0x1a o s r b) s → is ≡ after answer (put s r (named_bits (role_at r) b)) s
   written o (Ok x) role served e = written_as 2 0x1a rows s is r b o (Ok x) tt role served e ∙ stores s r b (ap (λ p. answer_to p b) (sym role) ∙ sym served)
   written o (Err f) role served e = e
+
+  pub written_if : (answer : Result (Unit {0}) Fault) → answer ≡ answer_to (role_at r) b → is ≡ after answer (put s r (named_bits (role_at r) b)) s → is ≡ stored_in s r b
+  written_if answer served e = e ∙ ap (λ a. after a (put s r (named_bits (role_at r) b)) s) served ∙ stores_if s r b
 
   pub lone_written : (answer : Result (Unit {0}) Fault) → LoneCodes s → is ≡ after answer (put s r (named_bits (role_at r) b)) s → LoneCodes is
   lone_written (Ok x) lone e = subst LoneCodes (sym e) (record { local = at 0x1a lone.local (omega (arith, and_le_r b 0x0f)); remote = at 0x1b lone.remote (omega (arith, and_le_r b 0x0f)) })

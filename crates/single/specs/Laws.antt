@@ -21,9 +21,12 @@ greater_more : (t : Bool) (a b c d : ℕ) → a ≤ c → b ≤ d → cond t (ma
 greater_more true a b c d h k = omega arith
 greater_more false a b c d h k = omega arith
 
+minimum_fits : (s : ℕ → ℕ) → minimum s ≤ 255
+minimum_fits s = omega arith
+
 module _ (s : ℕ → ℕ) (a b : OwnState) (hotter : HotterOwn a b) where
   level_more : (c : Channel) → level_from s c (a.loops (channel_index c)) ≤ level_from s c (b.loops (channel_index c))
-  level_more c = warmer_level (hotter (channel_index c)) (start_at s c) (degrees (code_at s c)) (minimum s) (omega arith)
+  level_more c = warmer_level (hotter (channel_index c)) (start_at s c) (degrees (code_at s c)) (minimum s) (minimum_fits s)
 
   base_more : base_from s a ≤ base_from s b
   base_more = greater_more (monitoring s) _ _ _ _ (level_more Local) (level_more Remote)

@@ -1,14 +1,21 @@
 -- The settings of a single unit, by register, and what they say.
-use Rattle.std.specs.Prelude.{ℕ, ◌+◌, Bool, cond, ℤ, pos, ◌==◌}
+use Rattle.std.specs.Prelude.{ℕ, ◌+◌, Bool, cond, not, ◌&&◌, ℤ, pos, ◌==◌}
 use Rattle.quantity.specs.Quantities.{bit, low_level, signed}
+use Rattle.registers.specs.Roles.{is_bad_code, is_setting, named_bits}
 use Rattle.registers.specs.Settings.{settings_in}
+use Rattle.unit.specs.Steps.{put}
 use Rattle.single.specs.declared.settings.Settings.{Settings}
 use Rattle.single.specs.declared.source.Channel.{Channel}
+use Rattle.single.specs.Registers.{role_at}
 use Rattle.single.specs.Sources.{channel_index}
 
 -- the setting at each register
 abbrev pub settings_of : Settings → ℕ → ℕ
 settings_of s = settings_in s.store
+
+-- a write changes the setting that it can, to the byte's named bits
+abbrev pub stored_in : (ℕ → ℕ) → ℕ → ℕ → ℕ → ℕ
+stored_in s r b = cond (is_setting (role_at r) && not (is_bad_code (role_at r) b)) (put s r (named_bits (role_at r) b)) s
 
 -- while 0, the fan runs at full duty
 abbrev pub monitoring : (ℕ → ℕ) → Bool

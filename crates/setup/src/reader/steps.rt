@@ -1,5 +1,5 @@
 // The reader's steps: a line as it stands, and what it says.
-ghost use Rattle.std.specs.Prelude.{◌≡◌, ℕ, ◌+◌, ◌^◌, ◌<◌, ◌≤◌, length, ◌==◌, ◌≢◌, slice_index};
+ghost use Rattle.std.specs.Prelude.{◌≡◌, ℕ, ◌+◌, ◌^◌, ◌<◌, ◌≤◌, length, ◌==◌, ◌≢◌, IfSome, slice_index};
 ghost use Rattle.form.specs.Forms.{form_of};
 ghost use Rattle.std.specs.Option.{option_map};
 ghost use Rattle.setup.specs.Cutting.{Cut};
@@ -67,6 +67,9 @@ impl<'a> Reader<'a> {
     pub fn next_text(&mut self) -> Option<Text<'a>>
         ensures text { option_map text_at result ≡ first self.old }
         ensures ahead { self.new ≡ rest self.old }
+        ensures counted { IfSome result (λ text. text.place.line ≤ text.place.offset + 1) }
+        ensures within { IfSome result (λ text. text.place.offset + length text.line.now < 2 ^ 63) }
+        ensures few { length self.old < 2 ^ 63 }
     {
         if self.is_at_end() {
             return None;

@@ -2,7 +2,7 @@
 ghost use Rattle.std.specs.Prelude.{◌≡◌, int_lt};
 ghost use Rattle.registers.specs.Roles.{answer_to, named_bits};
 ghost use Rattle.single.specs.Registers.{power_on_byte, role_at};
-ghost use Rattle.single.specs.Settings.{code_at, limit, minimum, monitoring, settings_of, start_at};
+ghost use Rattle.single.specs.Settings.{code_at, limit, minimum, monitoring, settings_of, start_at, stored_in};
 ghost use Rattle.single.specs.Sources.{source_number};
 ghost use Rattle.unit.specs.Steps.{after, put};
 
@@ -52,6 +52,14 @@ impl Settings {
         ensures after { settings_of self.new ≡ after result (put (settings_of self.old) register (named_bits (role_at register) byte)) (settings_of self.old) }
     {
         self.store.write(role_at(register), register, byte)
+    }
+
+    // A write that is served; one that is not leaves the settings as they are.
+    #[tactic(auto, using(crate::proofs::Stored::written_if))]
+    pub fn store(&mut self, register: u8, byte: u8)
+        ensures { settings_of self.new ≡ stored_in (settings_of self.old) register byte }
+    {
+        let _ = self.write(register, byte);
     }
 
     pub fn is_monitoring(&self) -> bool

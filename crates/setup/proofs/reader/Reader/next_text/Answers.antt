@@ -2,7 +2,7 @@ use Rattle.std.proofs.Common.{◌≡◌, ◌+◌, ◌-◌, take, drop, Some, sym
 use Rattle.std.proofs.lemmas.List.{take_rest}
 use Rattle.setup.specs.Lines.{lines, lay_out}
 use Rattle.setup.specs.Reading.{first, rest}
-use Rattle.setup.proofs.Lined.{Line, some_left, one_ahead}
+use Rattle.setup.proofs.Lined.{Line, ahead_few, some_left, one_ahead}
 use Rattle.setup.proofs.reader.Reader.next_text.Goals as goal
 
 pub returns : goal.returns
@@ -16,4 +16,7 @@ returns c =
     record {
       text = ap (λ n. Some (record { place = place; line = take n (drop place.offset list) })) size ∙ ap first (sym one);
       ahead = ap (λ p. lay_out p (lines (drop p.offset list))) c.place_after-self-inside.ensures ∙ ap rest (sym one);
+      counted = search rules;
+      within = search rules;
+      few = let few = ahead_few place list c.args.self.now c.self.view_is in search rules;
     }
