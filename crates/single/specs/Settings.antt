@@ -1,8 +1,8 @@
 -- The settings of a single unit, by register, and what they say.
-use Rattle.std.specs.Prelude.{ℕ, ◌+◌, Bool, cond, not, ◌&&◌, ℤ, pos, ◌==◌}
+use Rattle.std.specs.Prelude.{ℕ, ◌+◌, Bool, cond, not, ◌&&◌, ◌||◌, ℤ, pos, ◌==◌, nat_le}
 use Rattle.quantity.specs.Quantities.{bit, low_level, signed}
 use Rattle.registers.specs.Roles.{is_bad_code, is_setting, named_bits}
-use Rattle.registers.specs.Settings.{settings_in}
+use Rattle.registers.specs.Settings.{has_code, settings_in}
 use Rattle.unit.specs.Steps.{put}
 use Rattle.single.specs.declared.settings.Settings.{Settings}
 use Rattle.single.specs.declared.source.Channel.{Channel}
@@ -16,6 +16,14 @@ settings_of s = settings_in s.store
 -- a write changes the setting that it can, to the byte's named bits
 abbrev pub stored_in : (ℕ → ℕ) → ℕ → ℕ → ℕ → ℕ
 stored_in s r b = cond (is_setting (role_at r) && not (is_bad_code (role_at r) b)) (put s r (named_bits (role_at r) b)) s
+
+-- where a range code stands alone, only a code has room
+abbrev pub has_room : ℕ → ℕ → Bool
+has_room r b = nat_le b 4 || not (has_code 2 0x1a r)
+
+-- a byte in place of the one at a register, if it has room there
+abbrev pub placed_in : (ℕ → ℕ) → ℕ → ℕ → ℕ → ℕ
+placed_in s r b = cond (has_room r b) (put s r b) s
 
 -- while 0, the fan runs at full duty
 abbrev pub monitoring : (ℕ → ℕ) → Bool

@@ -8,6 +8,6 @@ pub mod bytes;
 
 #[derive(Drop)]
 pub struct Settings {
-    pub store: Store<2, 0x1a>,
+    store: Store<2, 0x1a>,
     ghost lone: { LoneCodes (settings_in store) },
 }

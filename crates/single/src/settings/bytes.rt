@@ -2,7 +2,7 @@
 ghost use Rattle.std.specs.Prelude.{◌≡◌, int_lt};
 ghost use Rattle.registers.specs.Roles.{answer_to, named_bits};
 ghost use Rattle.single.specs.Registers.{power_on_byte, role_at};
-ghost use Rattle.single.specs.Settings.{code_at, limit, minimum, monitoring, settings_of, start_at, stored_in};
+ghost use Rattle.single.specs.Settings.{code_at, has_room, limit, minimum, monitoring, placed_in, settings_of, start_at, stored_in};
 ghost use Rattle.single.specs.Sources.{source_number};
 ghost use Rattle.unit.specs.Steps.{after, put};
 
@@ -29,6 +29,13 @@ const POWER_ON: [(u8, u8); 9] = [
     (0x1d, 0x64),
     (0x1e, 0xff),
 ];
+
+// Whether a byte fits its register: where a range code stands alone, only a code does.
+fn has_room(register: u8, byte: u8) -> bool
+    ensures { result ≡ has_room register byte }
+{
+    byte <= 4 || !matches!(register, 0x1a..=0x1b)
+}
 
 // Questions that a double unit has too stand here again: a type over all their register numbers would be no plainer.
 impl Settings {
@@ -60,6 +67,15 @@ impl Settings {
         ensures { settings_of self.new ≡ stored_in (settings_of self.old) register byte }
     {
         let _ = self.write(register, byte);
+    }
+
+    // Puts any byte at any register, as no write does; where a range code stands alone, only a code.
+    pub fn put(&mut self, register: u8, byte: u8)
+        ensures { settings_of self.new ≡ placed_in (settings_of self.old) register byte }
+    {
+        if has_room(register, byte) {
+            self.store.put(register, byte);
+        }
     }
 
     pub fn is_monitoring(&self) -> bool
